@@ -1,0 +1,32 @@
+-- What the age of a scan is, and when the clock rule gives the true time. Assumes nothing.
+use mathlib.Core.Path.{_≡_}
+use Prim.Native.Nat.{ℕ, _+_, _-_, _%_, _^_, _<_, _≤_}
+use native.Mathlib.Omega.{arith}
+use borrow.Author.Tests.{le-ltb}
+use Rattle.clock.specs.Clock.{age, clockRule}
+use Rattle.clock.specs.declared.ScanTime.the-variants.{At}
+
+-- the number that wraps back from the scan's tick to the dock's is the age
+pub age-is : (dock scan r : ℕ) → dock < 2 ^ 32 → scan < 2 ^ 32 → r < 2 ^ 32 → (r + scan) % 2 ^ 32 ≡ dock → age dock scan ≡ r
+unfolding age
+age-is dock scan r hd hs hr e = omega arith
+
+-- a scan is at most as old as the ticks can tell
+pub age-small : (dock scan : ℕ) → age dock scan < 2 ^ 32
+unfolding age
+age-small dock scan = omega arith
+
+-- the tick of a handheld that has run for so many milliseconds
+abbrev pub tick : ℕ → ℕ
+tick ran = ran % 2 ^ 32
+
+-- the age by the ticks is the true age, if that is below 2 ^ 32 ms
+pub true-age : (ran old : ℕ) → old < 2 ^ 32 → age (tick (ran + old)) (tick ran) ≡ old
+unfolding age
+true-age ran old h = omega arith
+
+-- a scan made at `ran` milliseconds of the handheld and docked `old` milliseconds later, at `time`: the rule gives the true time
+pub true-time : (ran old time : ℕ) → old < 2 ^ 32 → old ≤ time → time ≤ 2 ^ 48 - 1
+    → clockRule (tick (ran + old)) (tick ran) time ≡ At (time - old)
+unfolding clockRule
+true-time ran old time h l t = simp (true-age ran old h, le-ltb (2 ^ 48 - 1) time t, le-ltb time old l)

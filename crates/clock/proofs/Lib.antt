@@ -1,0 +1,2 @@
+-- The laws of the clock rule.
+pub mod Age

@@ -1,0 +1,5 @@
+-- What the proofs of several functions cite, and the laws of the pieces of written forms.
+pub mod Steps
+pub mod Putting
+pub mod WritesAll
+pub mod Outcomes

@@ -1,0 +1,116 @@
+-- The shortest form of a number, group by group, and what is left of it to write. Assumes nothing.
+use mathlib.Core.Path.{_≡_, refl, _∙_}
+use mathlib.Core.Bool.{Bool, true, false}
+use mathlib.Core.List.{List, [], _∷_}
+use Prim.Native.Nat.{ℕ, zero, suc, _+_, _/_, _%_, _^_, _<_, _≤_}
+use native.Mathlib.Omega.{arith}
+use native.Mathlib.Nat.{pow-suc, div-lt-iff-lt-mul}
+use native.Mathlib.Numerals.{add-one}
+use lib.Dec.{ltb, lit<}
+use lib.ListN.{length, getD, set, length-set}
+use lib.Seq.{sets}
+use borrow.Author.Tests.{ltb-true, lt-ltb, le-ltb}
+use Rattle.choice.specs.Choice.{if_then_else_}
+use Rattle.numbers.specs.Coding.{formIn, form}
+
+-- more than one group
+pub form-more : (g x : ℕ) → 128 ≤ x → formIn (suc g) x ≡ (x % 128 + 128) ∷ formIn g (x / 128)
+unfolding formIn
+form-more g x h = rw (le-ltb x 128 h)
+
+-- one group
+pub form-last : (g x : ℕ) → x < 128 → formIn (suc g) x ≡ x ∷ []
+unfolding formIn
+form-last g x h = rw (lt-ltb x 128 h)
+
+-- a form has a byte
+pub form-in-some : (g x : ℕ) → 1 ≤ length (formIn (suc g) x)
+unfolding formIn
+form-in-some g x = go (ltb x 128)
+  where
+    go : (t : Bool) → 1 ≤ length (if t then x ∷ [] else (x % 128 + 128) ∷ formIn g (x / 128))
+    go true = omega arith
+    go false = omega arith
+
+-- a form in g groups has at most g bytes
+pub form-in-most : (g x : ℕ) → length (formIn g x) ≤ g
+unfolding formIn
+form-in-most zero x = omega arith
+form-in-most (suc g) x = go (form-in-most g (x / 128)) (ltb x 128)
+  where
+    go : length (formIn g (x / 128)) ≤ g → (t : Bool) → length (if t then x ∷ [] else (x % 128 + 128) ∷ formIn g (x / 128)) ≤ suc g
+    go h true = omega arith
+    go h false = omega arith
+
+-- one group less is left above the first
+pub less : (g x : ℕ) → x < 128 ^ suc g → x / 128 < 128 ^ g
+less g x h = div-lt-iff-lt-mul (lit< tt) .1 (rw (pow-suc 128 g) at h)
+
+-- a number below 128 ^ (g + 1) has at most g + 1 groups, whatever its form may take
+pub form-short : (g f x : ℕ) → x < 128 ^ suc g → length (formIn f x) ≤ suc g
+unfolding formIn
+form-short g zero x s = omega arith
+form-short zero (suc f) x s = rw (form-last f x (omega arith)) (omega arith)
+form-short (suc g) (suc f) x s = go (form-short g f (x / 128) (less (suc g) x s)) (ltb x 128)
+  where
+    go : length (formIn f (x / 128)) ≤ suc g → (t : Bool) → length (if t then x ∷ [] else (x % 128 + 128) ∷ formIn f (x / 128)) ≤ suc (suc g)
+    go h true = omega arith
+    go h false = omega arith
+
+-- a list of bytes
+abbrev pub Bytes : List ℕ → Type 0
+Bytes s = (i : ℕ) → getD s i 0 < 256
+
+-- a form is bytes
+pub form-in-bytes : (g x : ℕ) → Bytes (formIn g x)
+unfolding formIn
+form-in-bytes zero x i = omega arith
+form-in-bytes (suc g) x i = go (form-in-bytes g (x / 128)) (ltb x 128) refl i
+  where
+    go : ((k : ℕ) → getD (formIn g (x / 128)) k 0 < 256) → (t : Bool) → ltb x 128 ≡ t → (k : ℕ) → getD (if t then x ∷ [] else (x % 128 + 128) ∷ formIn g (x / 128)) k 0 < 256
+    go r true e zero = omega (arith, ltb-true x 128 e)
+    go r true e (suc k) = omega arith
+    go r false e zero = omega arith
+    go r false e (suc k) = r k
+
+-- x is left of v, to be written from i on; what the whole comes to is fixed
+pub record Left (d₀ : List ℕ) (at v : ℕ) (d : List ℕ) (i x : ℕ) : Type 0 where
+  pub g : ℕ
+  pub small : x < 128 ^ suc g
+  pub same : length d ≡ length d₀
+  pub ends : i + length (formIn (suc g) x) ≡ at + length (form v)
+  pub left : sets d i (formIn (suc g) x) ≡ sets d₀ at (form v)
+
+module _ (d₀ : List ℕ) (at v : ℕ) where
+  -- before the first group
+  pub begin : v < 2 ^ 64 → Left d₀ at v d₀ at v
+  unfolding form
+  begin h = record { g = 9; small = omega arith; same = refl; ends = refl; left = refl }
+
+module _ (d₀ : List ℕ) (at v : ℕ) (d : List ℕ) (i x : ℕ) where
+  -- after one group of several
+  pub more : 128 ≤ x → Left d₀ at v d i x → Left d₀ at v (set d i (x % 128 + 128)) (i + 1) (x / 128)
+  more h l = go (l .g) (l .small) (l .ends) (l .left)
+    where
+      go : (g : ℕ) → x < 128 ^ suc g → i + length (formIn (suc g) x) ≡ at + length (form v) → sets d i (formIn (suc g) x) ≡ sets d₀ at (form v) → Left d₀ at v (set d i (x % 128 + 128)) (i + 1) (x / 128)
+      go zero s e f = absurd (omega arith)
+      go (suc g) s e f = record {
+        g = g;
+        small = less (suc g) x s;
+        same = length-set d i (x % 128 + 128) ∙ l .same;
+        ends = let q = rw (form-more (suc g) x h) at e in omega arith;
+        left = rw (add-one i) (rw (form-more (suc g) x h) at f);
+      }
+
+  -- there is a place for the group
+  pub room : Left d₀ at v d i x → at + length (form v) ≤ length d₀ → i < length d
+  room l h = omega (arith, form-in-some (l .g) x)
+
+  -- ten groups at most are written
+  pub few : Left d₀ at v d i x → i ≤ at + 10
+  unfolding form
+  few l = omega (arith, form-in-most 10 v)
+
+  -- after the last group
+  pub last : x < 128 → Left d₀ at v d i x → (i + 1 ≡ at + length (form v)) × (set d i x ≡ sets d₀ at (form v))
+  last h l = (rw (form-last (l .g) x h) at (l .ends), rw (form-last (l .g) x h) at (l .left))

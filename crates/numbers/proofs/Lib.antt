@@ -1,0 +1,6 @@
+-- What the proofs of several functions cite, and the laws of the coding.
+pub mod Groups
+pub mod Forms
+pub mod Writes
+pub mod Reading
+pub mod CodingLaws

@@ -1,0 +1,57 @@
+-- `numbers::write_number` meets its contract: the tests lead to the three answers of a writer. Assumes nothing.
+use mathlib.Core.Path.{ap, _∙_}
+use native.Mathlib.Omega.{arith}
+use borrow.Author.Needs.{needs}
+use Rattle.numbers.specs.declared.Written.the-variants as written
+use Rattle.numbers.proofs.Writes.{too-large, no-room, wrote}
+use Rattle.numbers.proofs.write_number.Statement.{statement}
+use Rattle.numbers.proofs.write_number.Tie as tie
+
+most-requires : tie.Need-most-requires
+most-requires c κs = search needs
+
+returns : tie.Need-returns
+returns c =
+    let a = c .before .before .before .args in
+    let w = too-large (a .limit) (a .value) (a .buffer .now) (a .at) (omega arith) in
+    (w .answer, w .buffer)
+
+width-requires : tie.Need-width-requires
+width-requires c κs = search needs
+
+returns-2 : tie.Need-returns-2
+returns-2 c =
+    let a = c .before .before .before .before .before .args in
+    let w = no-room (a .limit) (a .value) (a .buffer .now) (a .at) (omega arith) (omega arith) in
+    (w .answer, w .buffer)
+
+returns-3 : tie.Need-returns-3
+returns-3 c =
+    let a = c .before .before .before .before .before .before .args in
+    let w = no-room (a .limit) (a .value) (a .buffer .now) (a .at) (omega arith) (omega arith) in
+    (w .answer, w .buffer)
+
+put-requires : tie.Need-put-requires
+put-requires c κs = search needs
+
+same-length : tie.Need-same-length
+same-length c = search needs
+
+returns-4 : tie.Need-returns-4
+returns-4 c =
+    let a = c .before .before .before .before .before .before .before .before .before .before .args in
+    let w = wrote (a .limit) (a .value) (a .buffer .now) (a .at) (omega arith) (omega arith) in
+    (ap written.Next (c .before .before .put .ensures .0) ∙ w .answer, c .before .before .put .ensures .1 ∙ w .buffer)
+
+pub write-number-spec : {M : Type 1} → statement M
+write-number-spec =
+    tie.close
+    (tie.spec
+    most-requires
+    returns
+    width-requires
+    returns-2
+    returns-3
+    put-requires
+    same-length
+    returns-4)

@@ -1,0 +1,79 @@
+-- The number coding of document 01, "Written forms".
+use mathlib.Core.Bool.{Bool, true, false, _&&_}
+use mathlib.Core.List.{List, [], _∷_}
+use Prim.Native.Nat.{ℕ, zero, suc, _+_, _-_, _*_, _/_, _%_, _^_}
+use lib.Dec.{eqb, ltb}
+use lib.ListN.{length, drop}
+use lib.Seq.{sets}
+use Rattle.choice.specs.Choice.{if_then_else_}
+use Rattle.numbers.specs.declared.Limit.{Limit}
+use Rattle.numbers.specs.declared.Limit.the-variants.{Schedule, Table}
+use Rattle.numbers.specs.declared.Refusal.{Refusal}
+use Rattle.numbers.specs.declared.Read.{Read}
+use Rattle.numbers.specs.declared.Read.the-variants as read
+use Rattle.numbers.specs.declared.Written.{Written}
+use Rattle.numbers.specs.declared.Written.the-variants as written
+
+-- schedule numbers have at most three groups, scan table numbers seven
+unfoldable pub groupsOf : Limit → ℕ
+groupsOf Schedule = 3
+groupsOf Table = 7
+
+-- schedule numbers are at most 65,535, scan table numbers at most 2 ^ 48 - 1
+unfoldable pub mostOf : Limit → ℕ
+mostOf Schedule = 65_535
+mostOf Table = 2 ^ 48 - 1
+
+-- ---- reading
+
+abbrev pub refusedRead : ℕ → Read
+refusedRead n = read.Refused (record { no = n })
+
+-- the last group of a number: it is 0 only for the number 0 itself, where no group came before; the number is not too large
+unfoldable pub lastGroup : Bool → ℕ → ℕ → ℕ → ℕ → ℕ → Read
+lastGroup later most low weight group next =
+    if eqb group 0 && later
+    then refusedRead 12
+    else (if ltb most (low + group * weight) then refusedRead 12 else read.Number (low + group * weight) next)
+
+-- the groups of seven bits from a place on, low group first, the top bit set while more follow: at most so many groups, `low` what those before came to
+unfoldable pub groupsFrom : ℕ → Bool → ℕ → ℕ → ℕ → List ℕ → ℕ → Read
+groupsFrom zero later most low weight bytes at = refusedRead 12
+groupsFrom (suc g) later most low weight [] at = refusedRead 11
+groupsFrom (suc g) later most low weight (b ∷ bytes) at =
+    if ltb b 128
+    then lastGroup later most low weight b (at + 1)
+    else groupsFrom g true most (low + (b - 128) * weight) (weight * 128) bytes (at + 1)
+
+-- the number at a place of the bytes, and the place after it
+unfoldable pub readNumber : Limit → List ℕ → ℕ → Read
+readNumber limit bytes at = groupsFrom (groupsOf limit) false (mostOf limit) 0 1 (drop at bytes) at
+
+-- ---- writing
+
+-- the shortest form, in at most g groups
+unfoldable pub formIn : ℕ → ℕ → List ℕ
+formIn zero v = []
+formIn (suc g) v = if ltb v 128 then v ∷ [] else (v % 128 + 128) ∷ formIn g (v / 128)
+
+-- the shortest form of a number below 2 ^ 64: at most ten groups
+unfoldable pub form : ℕ → List ℕ
+form v = formIn 10 v
+
+abbrev pub refusedWrite : ℕ → Written
+refusedWrite n = written.Refused (record { no = n })
+
+-- what writing at a place of a buffer answers
+unfoldable pub writeAnswer : Limit → ℕ → List ℕ → ℕ → Written
+writeAnswer limit v buffer at =
+    if ltb (mostOf limit) v
+    then refusedWrite 12
+    else (if ltb (length buffer) (at + length (form v)) then refusedWrite 8 else written.Next (at + length (form v)))
+
+-- the buffer after an answer: a refusal leaves it as it was
+abbrev pub leaves : Written → List ℕ → List ℕ → List ℕ
+leaves (written.Next n) new old = new
+leaves (written.Refused r) new old = old
+
+unfoldable pub afterWrite : Limit → ℕ → List ℕ → ℕ → List ℕ
+afterWrite limit v buffer at = leaves (writeAnswer limit v buffer at) (sets buffer at (form v)) buffer

@@ -1,0 +1,1 @@
+// No code: document 01's starred examples, proved of the rules.

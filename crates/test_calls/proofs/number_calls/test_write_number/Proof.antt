@@ -1,0 +1,53 @@
+use mathlib.Core.Path.{_≡_}
+use denote.Ref.{now}
+use Rattle.numbers.specs.Coding.{writeAnswer}
+use Rattle.numbers.specs.declared.Written.the-variants as written
+use Rattle.test_calls.specs.Words.{limitOf}
+use borrow.Author.Needs.{needs}
+use Rattle.test_calls.proofs.number_calls.test_write_number.Statement.{statement}
+use Rattle.test_calls.proofs.number_calls.test_write_number.Tie as tie
+
+limit-of-requires : tie.Need-limit-of-requires
+limit-of-requires c κs = search needs
+
+write-number-requires : tie.Need-write-number-requires
+write-number-requires c κs = search needs
+
+enum-known-answer : tie.Need-enum-known-answer
+enum-known-answer c = search needs
+
+enum-known-answer-2 : tie.Need-enum-known-answer-2
+enum-known-answer-2 c = search needs
+
+same-length : tie.Need-same-length
+same-length c = search needs
+
+returns : tie.Need-returns
+returns c =
+    let a = c .before .before .before .before .before .before .before .before .before .args in
+    let g = c .before .answer .given .0 in
+    let e : writeAnswer (limitOf (a .limit)) (a .value) (now (a .buffer)) (a .at) ≡ written.Next (g .0) = cc in
+    (simp e, cc, simp e)
+
+same-length-2 : tie.Need-same-length-2
+same-length-2 c = search needs
+
+returns-2 : tie.Need-returns-2
+returns-2 c =
+    let a = c .before .before .before .before .before .before .before .before .before .args in
+    let g = c .before .answer2 .given .0 in
+    let e : writeAnswer (limitOf (a .limit)) (a .value) (now (a .buffer)) (a .at) ≡ written.Refused (g .0) = cc in
+    (simp e, cc, simp e)
+
+pub test-write-number-spec : {M : Type 1} → statement M
+test-write-number-spec =
+    tie.close
+    (tie.spec
+    limit-of-requires
+    write-number-requires
+    enum-known-answer
+    enum-known-answer-2
+    same-length
+    returns
+    same-length-2
+    returns-2)

@@ -1,0 +1,15 @@
+use borrow.Author.Needs.{needs}
+use Rattle.test_calls.proofs.set_calls.test_scans_holds.Statement.{statement}
+use Rattle.test_calls.proofs.set_calls.test_scans_holds.Tie as tie
+
+holds-requires : tie.Need-holds-requires
+holds-requires c κs = search needs
+
+number-of-requires : tie.Need-number-of-requires
+number-of-requires c κs = search needs
+
+returns : tie.Need-returns
+returns c = cc
+
+pub test-scans-holds-spec : {M : Type 1} → statement M
+test-scans-holds-spec = tie.close (tie.spec holds-requires number-of-requires returns)

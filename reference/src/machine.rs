@@ -1,0 +1,646 @@
+//! The step machine over the records of proposers, acceptors and learners and
+//! the messages between them.
+
+use std::iter;
+
+use crate::refusal::{
+    Refusal, CRASHED, NOT_ENABLED, NO_ROOM, NUMBER_SPENT, OUTSIDE_RANGE, OUTSIDE_SIZES, SLOT_FREE,
+    UNKNOWN_CODE,
+};
+use crate::schedule::{test_sizes, Event, Sizes, GREATEST_A, GREATEST_L, GREATEST_P};
+use crate::sets::{acceptors, scans};
+
+/// The greatest proposal number.
+pub const GREATEST_NUMBER: u32 = 1_000;
+
+/// The event codes.
+pub const RECEIVE: u64 = 1;
+pub const DELIVER: u64 = 2;
+pub const DROP: u64 = 3;
+pub const DUPLICATE: u64 = 4;
+pub const PROPOSE: u64 = 5;
+pub const REFINE: u64 = 6;
+pub const DECIDE: u64 = 7;
+pub const CRASH: u64 = 8;
+
+/// The roles as a crash names them.
+pub const PROPOSER: u64 = 1;
+pub const ACCEPTOR: u64 = 2;
+pub const LEARNER: u64 = 3;
+
+/// The message kinds.
+pub const FREE: u32 = 0;
+pub const INTERNAL: u32 = 1;
+pub const PROPOSAL: u32 = 2;
+pub const ACKNOWLEDGEMENT: u32 = 3;
+pub const REJECTION: u32 = 4;
+pub const ACKNOWLEDGEMENT_TO_LEARNER: u32 = 5;
+
+/// A proposer's record. It is passive where it is not active.
+#[derive(Clone, Copy, Debug, Default, PartialEq, Eq)]
+pub struct Proposer {
+    pub alive: bool,
+    pub active: bool,
+    pub buffered: u64,
+    pub proposed: u64,
+    pub gathered: u64,
+    pub number: u32,
+    /// The acceptors that acknowledged.
+    pub acknowledged: u32,
+    /// The acceptors that rejected.
+    pub rejected: u32,
+    pub decided: u64,
+}
+
+/// An acceptor's record.
+#[derive(Clone, Copy, Debug, Default, PartialEq, Eq)]
+pub struct Acceptor {
+    pub alive: bool,
+    pub accepted: u64,
+}
+
+/// What a learner holds for one proposer: the newest number heard, its set and
+/// its acceptors.
+#[derive(Clone, Copy, Debug, Default, PartialEq, Eq)]
+pub struct Heard {
+    pub number: u32,
+    pub set: u64,
+    pub acceptors: u32,
+}
+
+/// A learner's record.
+#[derive(Clone, Copy, Debug, Default, PartialEq, Eq)]
+pub struct Learner {
+    pub alive: bool,
+    pub learnt: u64,
+    /// One place for each proposer.
+    pub heard: [Heard; GREATEST_P as usize],
+}
+
+/// A slot of the table of messages in flight.
+#[derive(Clone, Copy, Debug, Default, PartialEq, Eq)]
+pub struct Message {
+    pub kind: u32,
+    pub addressee: u32,
+    pub proposer: u32,
+    pub acceptor: u32,
+    pub number: u32,
+    pub set: u64,
+}
+
+impl Message {
+    /// A free slot.
+    pub const FREE: Message = Message {
+        kind: FREE,
+        addressee: 0,
+        proposer: 0,
+        acceptor: 0,
+        number: 0,
+        set: scans::EMPTY,
+    };
+}
+
+/// The sizes of a run and the records of its parties. Places past P, A and L
+/// are no records.
+#[derive(Clone, Copy, Debug, PartialEq, Eq)]
+pub struct Records {
+    pub sizes: Sizes,
+    pub proposers: [Proposer; GREATEST_P as usize],
+    pub acceptors: [Acceptor; GREATEST_A as usize],
+    pub learners: [Learner; GREATEST_L as usize],
+}
+
+/// What an event that is ok gives.
+#[derive(Clone, Copy, Debug, PartialEq, Eq)]
+pub enum Outcome {
+    /// Nothing but the changed records and slots.
+    Done,
+    /// A Deliver changed this learner's learnt set to `set`.
+    Learnt { learner: u64, set: u64 },
+    /// A Decide of this proposer decided `set`.
+    Decided { proposer: u64, set: u64 },
+}
+
+/// How many events of a run were ok and how many refused.
+#[derive(Clone, Copy, Debug, Default, PartialEq, Eq)]
+pub struct Counts {
+    pub ok: u64,
+    pub refused: u64,
+}
+
+/// The records of a fresh run: all alive, passive, sets empty, numbers 0. It
+/// frees every slot.
+///
+/// Refused 1 where a size is outside its range or the table is not M slots.
+pub fn fresh(sizes: &Sizes, slots: &mut [Message]) -> Result<Records, Refusal> {
+    test_sizes_and_table(sizes, slots)?;
+    let mut records = Records {
+        sizes: *sizes,
+        proposers: Default::default(),
+        acceptors: Default::default(),
+        learners: Default::default(),
+    };
+    for proposer in &mut records.proposers[..sizes.p as usize] {
+        proposer.alive = true;
+    }
+    for acceptor in &mut records.acceptors[..sizes.a as usize] {
+        acceptor.alive = true;
+    }
+    for learner in &mut records.learners[..sizes.l as usize] {
+        learner.alive = true;
+    }
+    slots.fill(Message::FREE);
+    Ok(records)
+}
+
+/// Refused 1 where a size is outside its range, the table is not M slots, or a
+/// field of a record or of a slot is outside its range.
+pub fn test_records(records: &Records, slots: &[Message]) -> Result<(), Refusal> {
+    let sizes = &records.sizes;
+    test_sizes_and_table(sizes, slots)?;
+    let p = sizes.p as usize;
+    let a = sizes.a as usize;
+    let l = sizes.l as usize;
+    let within = records.proposers[..p]
+        .iter()
+        .all(|proposer| proposer_within(sizes, proposer))
+        && records.acceptors[..a]
+            .iter()
+            .all(|acceptor| acceptor_within(sizes, acceptor))
+        && records.learners[..l]
+            .iter()
+            .all(|learner| learner_within(sizes, learner))
+        && slots.iter().all(|message| message_within(sizes, message));
+    if within {
+        Ok(())
+    } else {
+        Err(OUTSIDE_RANGE)
+    }
+}
+
+/// One event: the records and slots are tested first, then the event. A
+/// refusal changes nothing.
+pub fn step(
+    records: &mut Records,
+    slots: &mut [Message],
+    event: &Event,
+) -> Result<Outcome, Refusal> {
+    test_records(records, slots)?;
+    step_tested(records, slots, event)
+}
+
+/// One event on records and slots that have passed `test_records`; they pass
+/// it afterwards too. A refusal changes nothing.
+pub fn step_tested(
+    records: &mut Records,
+    slots: &mut [Message],
+    event: &Event,
+) -> Result<Outcome, Refusal> {
+    match event.code {
+        RECEIVE => receive(records, slots, event),
+        DELIVER => deliver(records, slots, event),
+        DROP => drop_message(records, slots, event),
+        DUPLICATE => duplicate(records, slots, event),
+        PROPOSE => propose(records, slots, event),
+        REFINE => refine(records, slots, event),
+        DECIDE => decide(records, event),
+        CRASH => crash(records, event),
+        _ => Err(UNKNOWN_CODE),
+    }
+}
+
+/// All events in their order, each reported with its place from 1. The records
+/// and slots are tested once, before the first event.
+pub fn run<F>(
+    records: &mut Records,
+    slots: &mut [Message],
+    events: &[Event],
+    mut report: F,
+) -> Result<Counts, Refusal>
+where
+    F: FnMut(u64, Result<Outcome, Refusal>),
+{
+    test_records(records, slots)?;
+    let mut counts = Counts::default();
+    for (place, event) in (1..).zip(events) {
+        let result = step_tested(records, slots, event);
+        match result {
+            Ok(_) => counts.ok += 1,
+            Err(_) => counts.refused += 1,
+        }
+        report(place, result);
+    }
+    Ok(counts)
+}
+
+// Refusal 1.
+
+fn test_sizes_and_table(sizes: &Sizes, slots: &[Message]) -> Result<(), Refusal> {
+    test_sizes(sizes)?;
+    if slots.len() as u64 != sizes.m {
+        return Err(OUTSIDE_RANGE);
+    }
+    Ok(())
+}
+
+fn proposer_within(sizes: &Sizes, proposer: &Proposer) -> bool {
+    scans::fits(proposer.buffered, sizes.s)
+        && scans::fits(proposer.proposed, sizes.s)
+        && scans::fits(proposer.gathered, sizes.s)
+        && scans::fits(proposer.decided, sizes.s)
+        && acceptors::fits(proposer.acknowledged, sizes.a as u32)
+        && acceptors::fits(proposer.rejected, sizes.a as u32)
+        && proposer.number <= GREATEST_NUMBER
+        && (!proposer.active || proposer.number >= 1)
+}
+
+fn acceptor_within(sizes: &Sizes, acceptor: &Acceptor) -> bool {
+    scans::fits(acceptor.accepted, sizes.s)
+}
+
+fn learner_within(sizes: &Sizes, learner: &Learner) -> bool {
+    scans::fits(learner.learnt, sizes.s)
+        && learner.heard[..sizes.p as usize].iter().all(|heard| {
+            heard.number <= GREATEST_NUMBER
+                && scans::fits(heard.set, sizes.s)
+                && acceptors::fits(heard.acceptors, sizes.a as u32)
+        })
+}
+
+fn message_within(sizes: &Sizes, message: &Message) -> bool {
+    let is_proposer = |number: u32| u64::from(number) < sizes.p;
+    let is_acceptor = |number: u32| u64::from(number) < sizes.a;
+    let is_learner = |number: u32| u64::from(number) < sizes.l;
+    let numbered = (1..=GREATEST_NUMBER).contains(&message.number);
+    let set_fits = scans::fits(message.set, sizes.s);
+    match message.kind {
+        FREE => *message == Message::FREE,
+        INTERNAL => {
+            is_proposer(message.addressee)
+                && message.proposer == 0
+                && message.acceptor == 0
+                && message.number == 0
+                && set_fits
+        }
+        PROPOSAL => {
+            is_acceptor(message.addressee)
+                && is_proposer(message.proposer)
+                && message.acceptor == 0
+                && numbered
+                && set_fits
+        }
+        ACKNOWLEDGEMENT | REJECTION => {
+            is_proposer(message.addressee)
+                && message.proposer == 0
+                && is_acceptor(message.acceptor)
+                && numbered
+                && set_fits
+        }
+        ACKNOWLEDGEMENT_TO_LEARNER => {
+            is_learner(message.addressee)
+                && is_proposer(message.proposer)
+                && is_acceptor(message.acceptor)
+                && numbered
+                && set_fits
+        }
+        _ => false,
+    }
+}
+
+// Refusals 3, 4, 5, 7 and 8.
+
+/// The index that an argument names among `count`; refused 3 where it is not
+/// below it.
+fn index_below(argument: u64, count: u64) -> Result<usize, Refusal> {
+    if argument < count {
+        Ok(argument as usize)
+    } else {
+        Err(OUTSIDE_SIZES)
+    }
+}
+
+/// Refused 3 where an argument that must be 0 is not.
+fn test_zero(argument: u64) -> Result<(), Refusal> {
+    if argument == 0 {
+        Ok(())
+    } else {
+        Err(OUTSIDE_SIZES)
+    }
+}
+
+/// The slot that the event names; refused 3, then 4 where it is free.
+fn occupied_slot(records: &Records, slots: &[Message], event: &Event) -> Result<usize, Refusal> {
+    let slot = index_below(event.a, records.sizes.m)?;
+    test_zero(event.b)?;
+    if slots[slot].kind == FREE {
+        return Err(SLOT_FREE);
+    }
+    Ok(slot)
+}
+
+/// The proposer that the event names, b being 0; refused 3, then 5.
+fn acting_proposer(records: &Records, event: &Event) -> Result<usize, Refusal> {
+    let proposer = index_below(event.a, records.sizes.p)?;
+    test_zero(event.b)?;
+    test_alive(records.proposers[proposer].alive)?;
+    Ok(proposer)
+}
+
+/// Refused 5 where the party has crashed.
+fn test_alive(alive: bool) -> Result<(), Refusal> {
+    if alive {
+        Ok(())
+    } else {
+        Err(CRASHED)
+    }
+}
+
+/// Refused 6 where the event is not enabled.
+fn test_enabled(enabled: bool) -> Result<(), Refusal> {
+    if enabled {
+        Ok(())
+    } else {
+        Err(NOT_ENABLED)
+    }
+}
+
+/// Refused 7 where the proposal number is already 1,000.
+fn test_number(number: u32) -> Result<(), Refusal> {
+    if number >= GREATEST_NUMBER {
+        return Err(NUMBER_SPENT);
+    }
+    Ok(())
+}
+
+/// Refused 8 where fewer slots are free than `needed`.
+fn test_free(slots: &[Message], needed: u64) -> Result<(), Refusal> {
+    let needed = needed as usize;
+    let free = slots.iter().filter(|slot| slot.kind == FREE);
+    if free.take(needed).count() < needed {
+        return Err(NO_ROOM);
+    }
+    Ok(())
+}
+
+/// Sends the messages in their order, each into the lowest free slot at that
+/// moment.
+fn send(slots: &mut [Message], messages: impl Iterator<Item = Message>) {
+    let free = slots.iter_mut().filter(|slot| slot.kind == FREE);
+    for (slot, message) in free.zip(messages) {
+        *slot = message;
+    }
+}
+
+// The events.
+
+fn receive(
+    records: &mut Records,
+    slots: &mut [Message],
+    event: &Event,
+) -> Result<Outcome, Refusal> {
+    let sizes = records.sizes;
+    let receiver = index_below(event.a, sizes.p)?;
+    index_below(event.b, sizes.s)?;
+    let proposer = &mut records.proposers[receiver];
+    test_alive(proposer.alive)?;
+    test_free(slots, sizes.p - 1)?;
+
+    let set = scans::one(event.b);
+    proposer.buffered = scans::union(proposer.buffered, set);
+    let others = (0..sizes.p as u32).filter(|other| *other != receiver as u32);
+    send(
+        slots,
+        others.map(|addressee| Message {
+            kind: INTERNAL,
+            addressee,
+            set,
+            ..Message::FREE
+        }),
+    );
+    Ok(Outcome::Done)
+}
+
+fn deliver(
+    records: &mut Records,
+    slots: &mut [Message],
+    event: &Event,
+) -> Result<Outcome, Refusal> {
+    let slot = occupied_slot(records, slots, event)?;
+    let message = slots[slot];
+    match message.kind {
+        INTERNAL => {
+            let proposer = &mut records.proposers[message.addressee as usize];
+            test_alive(proposer.alive)?;
+            slots[slot] = Message::FREE;
+            proposer.buffered = scans::union(proposer.buffered, message.set);
+            Ok(Outcome::Done)
+        }
+        PROPOSAL => deliver_proposal(records, slots, slot),
+        ACKNOWLEDGEMENT => {
+            let proposer = &mut records.proposers[message.addressee as usize];
+            test_alive(proposer.alive)?;
+            slots[slot] = Message::FREE;
+            if proposer.active && message.number == proposer.number {
+                proposer.acknowledged = acceptors::with(proposer.acknowledged, message.acceptor);
+            }
+            Ok(Outcome::Done)
+        }
+        REJECTION => {
+            let proposer = &mut records.proposers[message.addressee as usize];
+            test_alive(proposer.alive)?;
+            slots[slot] = Message::FREE;
+            if proposer.active && message.number == proposer.number {
+                proposer.rejected = acceptors::with(proposer.rejected, message.acceptor);
+                proposer.gathered = scans::union(proposer.gathered, message.set);
+            }
+            Ok(Outcome::Done)
+        }
+        // Every other kind that passes the test of records is kind 5.
+        _ => {
+            let a = records.sizes.a as u32;
+            let learner = &mut records.learners[message.addressee as usize];
+            test_alive(learner.alive)?;
+            slots[slot] = Message::FREE;
+            if hear(learner, &message, a) {
+                return Ok(Outcome::Learnt {
+                    learner: u64::from(message.addressee),
+                    set: learner.learnt,
+                });
+            }
+            Ok(Outcome::Done)
+        }
+    }
+}
+
+/// Delivers the proposal in `slot` to its acceptor.
+fn deliver_proposal(
+    records: &mut Records,
+    slots: &mut [Message],
+    slot: usize,
+) -> Result<Outcome, Refusal> {
+    let learners = records.sizes.l;
+    let proposal = slots[slot];
+    let acceptor = &mut records.acceptors[proposal.addressee as usize];
+    test_alive(acceptor.alive)?;
+    let answer = Message {
+        kind: REJECTION,
+        addressee: proposal.proposer,
+        proposer: 0,
+        acceptor: proposal.addressee,
+        number: proposal.number,
+        set: scans::union(acceptor.accepted, proposal.set),
+    };
+    if scans::contained(acceptor.accepted, proposal.set) {
+        // 1 + L messages, one of them into the slot that is freed.
+        test_free(slots, learners)?;
+        slots[slot] = Message::FREE;
+        acceptor.accepted = proposal.set;
+        let to_proposer = Message {
+            kind: ACKNOWLEDGEMENT,
+            set: proposal.set,
+            ..answer
+        };
+        let to_learners = (0..learners as u32).map(|learner| Message {
+            kind: ACKNOWLEDGEMENT_TO_LEARNER,
+            addressee: learner,
+            proposer: proposal.proposer,
+            acceptor: proposal.addressee,
+            number: proposal.number,
+            set: proposal.set,
+        });
+        send(slots, iter::once(to_proposer).chain(to_learners));
+    } else {
+        slots[slot] = Message::FREE;
+        acceptor.accepted = answer.set;
+        send(slots, iter::once(answer));
+    }
+    Ok(Outcome::Done)
+}
+
+/// The learner hears an acknowledgement: whether its learnt set changed.
+fn hear(learner: &mut Learner, message: &Message, a: u32) -> bool {
+    let heard = &mut learner.heard[message.proposer as usize];
+    if message.number < heard.number {
+        return false;
+    }
+    if message.number > heard.number {
+        heard.number = message.number;
+        heard.set = message.set;
+        heard.acceptors = acceptors::EMPTY;
+    }
+    heard.acceptors = acceptors::with(heard.acceptors, message.acceptor);
+    let learns = acceptors::is_majority(heard.acceptors, a)
+        && scans::strictly_contained(learner.learnt, heard.set);
+    if learns {
+        learner.learnt = heard.set;
+    }
+    learns
+}
+
+fn drop_message(
+    records: &Records,
+    slots: &mut [Message],
+    event: &Event,
+) -> Result<Outcome, Refusal> {
+    let slot = occupied_slot(records, slots, event)?;
+    slots[slot] = Message::FREE;
+    Ok(Outcome::Done)
+}
+
+fn duplicate(records: &Records, slots: &mut [Message], event: &Event) -> Result<Outcome, Refusal> {
+    let slot = occupied_slot(records, slots, event)?;
+    test_free(slots, 1)?;
+    let copy = slots[slot];
+    send(slots, iter::once(copy));
+    Ok(Outcome::Done)
+}
+
+fn propose(
+    records: &mut Records,
+    slots: &mut [Message],
+    event: &Event,
+) -> Result<Outcome, Refusal> {
+    let a = records.sizes.a;
+    let index = acting_proposer(records, event)?;
+    let proposer = &mut records.proposers[index];
+    test_enabled(!proposer.active && !scans::is_empty(proposer.buffered))?;
+    test_number(proposer.number)?;
+    test_free(slots, a)?;
+
+    proposer.number += 1;
+    proposer.proposed = scans::union(proposer.proposed, proposer.buffered);
+    proposer.buffered = scans::EMPTY;
+    proposer.gathered = scans::EMPTY;
+    proposer.acknowledged = acceptors::EMPTY;
+    proposer.rejected = acceptors::EMPTY;
+    proposer.active = true;
+    send_proposals(slots, index, proposer, a);
+    Ok(Outcome::Done)
+}
+
+fn refine(records: &mut Records, slots: &mut [Message], event: &Event) -> Result<Outcome, Refusal> {
+    let a = records.sizes.a;
+    let index = acting_proposer(records, event)?;
+    let proposer = &mut records.proposers[index];
+    let answered = acceptors::union(proposer.acknowledged, proposer.rejected);
+    test_enabled(
+        proposer.active
+            && !acceptors::is_empty(proposer.rejected)
+            && acceptors::is_majority(answered, a as u32),
+    )?;
+    test_number(proposer.number)?;
+    test_free(slots, a)?;
+
+    proposer.number += 1;
+    proposer.proposed = scans::union(proposer.proposed, proposer.gathered);
+    proposer.gathered = scans::EMPTY;
+    proposer.acknowledged = acceptors::EMPTY;
+    proposer.rejected = acceptors::EMPTY;
+    send_proposals(slots, index, proposer, a);
+    Ok(Outcome::Done)
+}
+
+/// Sends the proposer's proposal to every acceptor.
+fn send_proposals(slots: &mut [Message], index: usize, proposer: &Proposer, a: u64) {
+    send(
+        slots,
+        (0..a as u32).map(|addressee| Message {
+            kind: PROPOSAL,
+            addressee,
+            proposer: index as u32,
+            acceptor: 0,
+            number: proposer.number,
+            set: proposer.proposed,
+        }),
+    );
+}
+
+fn decide(records: &mut Records, event: &Event) -> Result<Outcome, Refusal> {
+    let a = records.sizes.a as u32;
+    let index = acting_proposer(records, event)?;
+    let proposer = &mut records.proposers[index];
+    test_enabled(proposer.active && acceptors::is_majority(proposer.acknowledged, a))?;
+
+    proposer.decided = proposer.proposed;
+    proposer.active = false;
+    Ok(Outcome::Decided {
+        proposer: event.a,
+        set: proposer.decided,
+    })
+}
+
+fn crash(records: &mut Records, event: &Event) -> Result<Outcome, Refusal> {
+    let sizes = records.sizes;
+    let alive = match event.a {
+        PROPOSER => &mut records.proposers[index_below(event.b, sizes.p)?].alive,
+        ACCEPTOR => &mut records.acceptors[index_below(event.b, sizes.a)?].alive,
+        LEARNER => &mut records.learners[index_below(event.b, sizes.l)?].alive,
+        _ => return Err(OUTSIDE_SIZES),
+    };
+    test_alive(*alive)?;
+    *alive = false;
+    Ok(Outcome::Done)
+}
+
+#[cfg(test)]
+mod tests;

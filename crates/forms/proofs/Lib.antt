@@ -3,3 +3,4 @@ pub mod Steps
 pub mod Putting
 pub mod WritesAll
 pub mod Outcomes
+pub mod FormLaws

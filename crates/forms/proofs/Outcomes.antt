@@ -2,12 +2,12 @@
 use mathlib.Core.Path.{_≡_, refl, sym, ap, _∙_}
 use mathlib.Core.Bool.{Bool, true, false}
 use mathlib.Core.List.{List, [], _∷_, _++_, map, append-assoc}
-use Prim.Native.Nat.{ℕ, zero, suc, _+_, _*_, _≤_}
+use Prim.Native.Nat.{ℕ, zero, suc, _*_, _≤_}
 use native.Mathlib.Omega.{arith}
 use native.Mathlib.Nat.{zero-mul, suc-mul, add-comm}
 use lib.Dec.{eqb, ltb}
 use lib.ListN.{length, drop, replicate, length-append, replicate-append-replicate}
-use borrow.Author.Tests.{eqb-true, eqb-false, eq-eqb, ne-eqb, ltb-true, ltb-false, le-ltb}
+use borrow.Author.Tests.{eqb-true, eqb-false, eq-eqb, ltb-false, le-ltb}
 use Rattle.choice.specs.Choice.{if_then_else_}
 use Rattle.numbers.specs.Coding.{mostOf, readNumber}
 use Rattle.numbers.specs.declared.Limit.{Limit}
@@ -117,6 +117,7 @@ rows-row (suc n) tests limit bytes at =
     then-same (row tests limit bytes at) (λ k. rows-row n tests limit bytes k)
     ∙ sym (row-append tests (times n tests) limit bytes at)
 
+-- how many tests n rows make
 pub times-length : (n : ℕ) (tests : List Test) → length (times n tests) ≡ n * length tests
 unfolding times
 times-length zero tests = sym (zero-mul (length tests))
@@ -126,17 +127,20 @@ map-append : (f : Test → Test) (ts us : List Test) → map f (ts ++ us) ≡ ma
 map-append f [] us = refl
 map-append f (t ∷ ts) us = ap {B = List Test} (λ r. f t ∷ r) (map-append f ts us)
 
+-- each test of n rows may be changed in one row
 pub times-map : (f : Test → Test) (n : ℕ) (tests : List Test) → map f (times n tests) ≡ times n (map f tests)
 unfolding times
 times-map f zero tests = refl
 times-map f (suc n) tests = map-append f tests (times n tests) ∙ ap (λ (r : List Test). map f tests ++ r) (times-map f n tests)
 
+-- n rows of k untested numbers
 pub times-untested : (n k : ℕ) → times n (replicate k untested) ≡ replicate (n * k) untested
 unfolding times
 times-untested zero k = rw (zero-mul k)
 times-untested (suc n) k =
     rw (times-untested n k, suc-mul n k, add-comm (n * k) k) (replicate-append-replicate k (n * k) untested)
 
+-- no number is refused where there is none
 row-no-nil : (tests : List Test) → rowNo tests [] ≡ 0
 unfolding rowNo
 row-no-nil [] = refl

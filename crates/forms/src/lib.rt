@@ -22,8 +22,8 @@ pub fn skip_numbers(bytes: &[u8], at: usize, limit: Limit, count: usize) -> Plac
     ensures { λ r. ⌜ r ≡ placeOf (plain count limit (now (bytes .entry)) at) ⌝ }
 {
     let mut next = at;
-    let mut i: usize = 0;
-    while i < count {
+    let mut passed: usize = 0;
+    while passed < count {
         let answer = numbers::read_number(bytes, next, limit);
         match answer {
             Read::Number { value: _, next: n } => {
@@ -33,7 +33,7 @@ pub fn skip_numbers(bytes: &[u8], at: usize, limit: Limit, count: usize) -> Plac
                 return Place::Refused(refusal);
             }
         }
-        i += 1;
+        passed += 1;
     }
     Place::Next(next)
 }

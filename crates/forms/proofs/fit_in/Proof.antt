@@ -1,13 +1,12 @@
 -- `forms::fit_in` meets its contract. The loop's invariant: all the forms have room where those of the numbers that are left have the room that
 -- is left. The measure is how many numbers are left. Assumes nothing.
-use mathlib.Core.Path.{_≡_, refl, sym, ap, _∙_}
-use Prim.Native.Nat.{ℕ, _≤_, _-_, _+_}
+use mathlib.Core.Path.{_≡_, refl, sym, _∙_}
+use Prim.Native.Nat.{_≤_, _-_, _+_}
 use native.Mathlib.Omega.{arith}
 use lib.Dec.{leb}
-use lib.ListN.{length, drop, getD}
+use lib.ListN.{length, drop}
 use borrow.Author.Tests.{le-leb, lt-leb}
 use borrow.Author.Needs.{needs}
-use Rattle.numbers.specs.Coding.{form}
 use Rattle.forms.specs.Forms.{forms}
 use Rattle.forms.proofs.Steps.{forms-next-length, forms-none, leb-less}
 use Rattle.forms.proofs.fit_in.Statement.{statement}

@@ -1,6 +1,6 @@
 -- `forms::put_numbers` meets its contract. The loop's invariant: the numbers that are left, written from `next` on, make the whole. The measure
 -- is how many are left. Assumes nothing.
-use mathlib.Core.Path.{_≡_, refl, sym, _∙_}
+use mathlib.Core.Path.{sym, _∙_}
 use Prim.Native.Nat.{_-_}
 use native.Mathlib.Omega.{arith}
 use lib.ListN.{length}

@@ -1,0 +1,126 @@
+-- What a reader of written forms refuses with, and what a row of tests gives: whatever holds of each of its refusals. Assumes nothing.
+use mathlib.Core.Path.{_≡_, refl, sym}
+use mathlib.Core.Bool.{Bool, true, false}
+use mathlib.Core.List.{List, [], _∷_, map}
+use mathlib.Core.Logic.{⊎-elim}
+use Prim.Native.Nat.{ℕ, zero, suc}
+use lib.Dec.{eqb, ltb}
+use lib.ListN.{length}
+use borrow.Author.Tests.{eqb-false}
+use Rattle.choice.specs.Choice.{if_then_else_}
+use Rattle.numbers.specs.Coding.{mostOf, readNumber}
+use Rattle.numbers.specs.declared.Limit.{Limit}
+use Rattle.numbers.specs.declared.Refusal.{Refusal}
+use Rattle.numbers.specs.declared.Read.{Read}
+use Rattle.numbers.specs.declared.Read.the-variants as read
+use Rattle.numbers.proofs.CodingLaws.{refusals}
+use Rattle.forms.specs.Forms.{Outcome, got, refused, refusedWith, Test, testRead, prepend, andThen, row, rows, whole, rowNo, asRead}
+use Rattle.forms.proofs.Outcomes.{refused-got}
+
+-- every refusal of a test has P
+abbrev pub Gives : (ℕ → Type 0) → Test → Type 0
+Gives P test = (v : ℕ) → (test v ≡ 0 → ⊥) → P (test v)
+
+-- every refusal of an outcome has P
+abbrev pub Refuses : (ℕ → Type 0) → Outcome → Type 0
+Refuses P o = (r : Refusal) → o ≡ refused r → P (r .no)
+
+-- every refusal of each test of a row has P
+pub data All (P : ℕ → Type 0) : List Test → Type 0 where
+  ended : All P []
+  and : {test : Test} {tests : List Test} → Gives P test → All P tests → All P (test ∷ tests)
+
+module _ (P : ℕ → Type 0) where
+  -- ---- tests
+
+  -- a choice of a number or 0
+  pub gives-one : (n : ℕ) (t : Bool) → P n → ((if t then n else 0) ≡ 0 → ⊥) → P (if t then n else 0)
+  gives-one n true p h = p
+  gives-one n false p h = absurd (h refl)
+
+  -- the first of two refusals
+  pub gives-first : (a b : ℕ) → ((a ≡ 0 → ⊥) → P a) → ((b ≡ 0 → ⊥) → P b) → ((if eqb a 0 then b else a) ≡ 0 → ⊥) → P (if eqb a 0 then b else a)
+  gives-first a b p q h = go (eqb a 0) h
+    where
+      go : (t : Bool) → ((if t then b else a) ≡ 0 → ⊥) → P (if t then b else a)
+      go true k = q k
+      go false k = p k
+
+  -- a number that is tested as the reader would
+  as-read-gives : (limit : Limit) (test : Test) → P 12 → Gives P test → Gives P (asRead limit test)
+  unfolding asRead
+  as-read-gives limit test p g v h = go (ltb (mostOf limit) v) h
+    where
+      go : (t : Bool) → ((if t then 12 else test v) ≡ 0 → ⊥) → P (if t then 12 else test v)
+      go true k = p
+      go false k = g v k
+
+  -- a row that is tested as the reader would
+  pub all-as-read : (limit : Limit) {tests : List Test} → P 12 → All P tests → All P (map (asRead limit) tests)
+  all-as-read limit p ended = ended
+  all-as-read limit p (and {test = test} g a) = and (as-read-gives limit test p g) (all-as-read limit p a)
+
+  -- the first refusal of a row's numbers
+  pub row-gives : {tests : List Test} → All P tests → (vs : List ℕ) → (rowNo tests vs ≡ 0 → ⊥) → P (rowNo tests vs)
+  unfolding rowNo
+  row-gives ended vs h = absurd (h refl)
+  row-gives (and g a) [] h = absurd (h refl)
+  row-gives (and {test = test} {tests = tests} g a) (v ∷ vs) h = gives-first (test v) (rowNo tests vs) (g v) (row-gives a vs) h
+
+  -- ---- reading
+
+  -- numbers before a piece
+  pub prepend-refuses : (vs : List ℕ) (o : Outcome) → Refuses P o → Refuses P (prepend vs o)
+  unfolding prepend
+  prepend-refuses vs (got ws next) h r e = absurd (refused-got (sym e))
+  prepend-refuses vs (refused q) h r e = h r e
+
+  -- a piece, and then another
+  pub then-refuses : (o : Outcome) (f : ℕ → Outcome) → Refuses P o → ((n : ℕ) → Refuses P (f n)) → Refuses P (andThen o f)
+  unfolding andThen
+  then-refuses (got vs next) f a b = prepend-refuses vs (f next) (b next)
+  then-refuses (refused q) f a b = a
+
+  -- a number that cannot be read, or does not pass
+  test-refuses : (test : Test) (x : Read) → ((q : Refusal) → x ≡ read.Refused q → P (q .no)) → Gives P test → Refuses P (testRead test x)
+  unfolding testRead
+  test-refuses test (read.Refused q) a g r e =
+      let p : q ≡ r = cc in
+      rw (← p) (a q refl)
+  test-refuses test (read.Number v next) a g r e = go (eqb (test v) 0) refl r e
+    where
+      go : (t : Bool) → eqb (test v) 0 ≡ t → Refuses P (if t then got (v ∷ []) next else refusedWith (test v))
+      go true h r e = absurd (refused-got (sym e))
+      go false h r e =
+          let p : _≡_ {A = Refusal} (record { no = test v }) r = cc in
+          rw (← p) (g v (eqb-false (test v) 0 h))
+
+  module _ (limit : Limit) (bytes : List ℕ) (eleven : P 11) (twelve : P 12) where
+    read-refuses : (at : ℕ) (q : Refusal) → readNumber limit bytes at ≡ read.Refused q → P (q .no)
+    read-refuses at q e = ⊎-elim (λ (h : q .no ≡ 11). rw h eleven) (λ (h : q .no ≡ 12). rw h twelve) (refusals limit bytes at q e)
+
+    -- a row
+    pub row-refuses : {tests : List Test} → All P tests → (at : ℕ) → Refuses P (row tests limit bytes at)
+    unfolding row
+    row-refuses ended at r e = absurd (refused-got (sym e))
+    row-refuses (and {test = test} {tests = tests} g a) at r e =
+        let x = readNumber limit bytes at in
+        then-refuses (testRead test x) (λ n. row tests limit bytes n) (test-refuses test x (read-refuses at) g) (row-refuses a) r e
+
+    -- rows
+    pub rows-refuses : {tests : List Test} → All P tests → (n at : ℕ) → Refuses P (rows n tests limit bytes at)
+    unfolding rows
+    rows-refuses a zero at r e = absurd (refused-got (sym e))
+    rows-refuses {tests} a (suc n) at r e = then-refuses (row tests limit bytes at) (λ k. rows n tests limit bytes k) (row-refuses a at) (rows-refuses a n) r e
+
+  -- bytes that follow
+  pub whole-refuses : (bytes : List ℕ) (o : Outcome) → P 13 → Refuses P o → Refuses P (whole bytes o)
+  unfolding whole
+  whole-refuses bytes (refused q) p h = h
+  whole-refuses bytes (got vs next) p h = go (ltb next (length bytes))
+    where
+      go : (t : Bool) → Refuses P (if t then refusedWith 13 else got vs next)
+      go false r e = absurd (refused-got (sym e))
+      go true r e =
+          let q : _≡_ {A = Refusal} (record { no = 13 }) r = cc in
+          rw (← q) p

@@ -1,0 +1,72 @@
+-- `scan_table::read_table` meets its contract: the whole form is checked, then the room, and then the numbers after the size are taken. Assumes nothing.
+use mathlib.Core.Path.{_≡_, sym, ap, _∙_}
+use Prim.Native.Nat.{ℕ}
+use native.Mathlib.Omega.{arith}
+use lib.ListN.{drop}
+use lib.Seq.{sets}
+use Rattle.numbers.proofs.CodingLaws.{Bytes}
+use Rattle.scan_table.specs.declared.TableRead.the-variants as table
+use Rattle.scan_table.specs.Table.{readTable}
+use Rattle.scan_table.proofs.Tables.{checked-got, checked-refused, form-refused, room-short, room-enough, table-numbers}
+use borrow.Author.Needs.{needs}
+use Rattle.scan_table.proofs.read_table.Statement.{statement}
+use Rattle.scan_table.proofs.read_table.Tie as tie
+
+check-table-requires : tie.Need-check-table-requires
+check-table-requires c κs = search needs
+
+enum-known-checked : tie.Need-enum-known-checked
+enum-known-checked c = search needs
+
+returns : tie.Need-returns
+returns c =
+    let a = c .before .before .before .before .before .before .before .args in
+    let k = checked-got (readTable (a .bytes .now)) (sym (c .before .before .before .before .check-table .ensures) ∙ c .before .before .checked .given .1) in
+    let w = room-short (a .room .now) (k .vs) (k .next) (omega (arith, k .scans)) in
+    rw (k .was) (w .answer, w .left)
+
+width-requires : tie.Need-width-requires
+width-requires c κs = search needs
+
+mul-take-numbers : tie.Need-mul-take-numbers
+mul-take-numbers c = search needs
+
+take-numbers-requires : tie.Need-take-numbers-requires
+take-numbers-requires c κs = search needs
+
+enum-known-checked-2 : tie.Need-enum-known-checked-2
+enum-known-checked-2 c = search needs
+
+same-length : tie.Need-same-length
+same-length c = search needs
+
+returns-2 : tie.Need-returns-2
+returns-2 c =
+    let a = c .before .before .before .before .before .before .before .before .before .before .before .before .args in
+    let k = checked-got (readTable (a .bytes .now)) (sym (c .before .before .before .before .before .before .before .before .before .check-table .ensures) ∙ c .before .before .before .before .before .before .before .checked .given .1) in
+    let b : Bytes (a .bytes .now) = λ (i : ℕ). omega (arith, c .before .before .before .before .before .before .before .before .before .before .shared-slice-known .given i) in
+    let t = table-numbers (a .bytes .now) b (k .was) in
+    let w = room-enough (a .room .now) (k .vs) (k .next) (omega (arith, k .scans)) in
+    let l : c .before .before .take-numbers .last .0 ≡ sets (a .room .now) 0 (drop 1 (k .vs)) = cc in
+    rw (k .was) (ap table.Scans (k .scans) ∙ w .answer, l ∙ w .left)
+
+returns-3 : tie.Need-returns-3
+returns-3 c =
+    let a = c .before .before .before .before .before .before .args in
+    let w = form-refused (a .room .now) (c .before .checked2 .given .0 .0) in
+    rw (checked-refused (readTable (a .bytes .now)) (sym (c .before .before .before .check-table .ensures) ∙ c .before .checked2 .given .1)) (w .answer, w .left)
+
+pub read-table-spec : {M : Type 1} → statement M
+read-table-spec =
+    tie.close
+    (tie.spec
+    check-table-requires
+    enum-known-checked
+    returns
+    width-requires
+    mul-take-numbers
+    take-numbers-requires
+    enum-known-checked-2
+    same-length
+    returns-2
+    returns-3)

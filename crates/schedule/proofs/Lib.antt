@@ -1,0 +1,6 @@
+-- What the proofs of several functions cite, and the laws of the schedule.
+pub mod Sixes
+pub mod Parts
+pub mod Valid
+pub mod Answers
+pub mod ScheduleLaws

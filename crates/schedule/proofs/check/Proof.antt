@@ -1,0 +1,90 @@
+-- `schedule::check` meets its contract: the six that are taken are those that were passed over. Assumes nothing.
+use mathlib.Core.Path.{_≡_, refl, sym, ap, _∙_}
+use native.Mathlib.Omega.{arith}
+use lib.ListN.{replicate}
+use borrow.Author.Needs.{needs}
+use Rattle.numbers.specs.declared.Limit.the-variants as limit
+use Rattle.forms.specs.Forms.{got, plain, placeOf}
+use Rattle.forms.specs.declared.Place.the-variants as place
+use Rattle.schedule.specs.Schedule.{headerOf, headerNo}
+use Rattle.schedule.proofs.Parts.{place-refused, six-taken, six-small, check-no-six, check-no-header, check-events}
+use Rattle.schedule.proofs.check.Statement.{statement}
+use Rattle.schedule.proofs.check.Tie as tie
+
+skip-numbers-requires : tie.Need-skip-numbers-requires
+skip-numbers-requires c κs = search needs
+
+enum-known-place : tie.Need-enum-known-place
+enum-known-place c = search needs
+
+slice-aggregate-take-numbers : tie.Need-slice-aggregate-take-numbers
+slice-aggregate-take-numbers c = search needs
+
+take-numbers-requires : tie.Need-take-numbers-requires
+take-numbers-requires c κs = search needs
+
+-- the six numbers and the place after them
+six : (c : tie.After-six2) → plain 6 limit.Schedule (c .before .before .before .before .before .before .before .before .args .bytes .now) 0 ≡ got (c .before .take-numbers .last .0) (c .before .before .before .before .place .given .0 .0)
+six c =
+    let bytes = c .before .before .before .before .before .before .before .before .args .bytes .now in
+    let e : placeOf (plain 6 limit.Schedule bytes 0) ≡ place.Next (c .before .before .before .before .place .given .0 .0) = cc in
+    rw (c .before .take-numbers .ensures) (six-taken bytes (replicate 6 0) refl e)
+
+header-of-requires : tie.Need-header-of-requires
+header-of-requires c κs = six-small (c .before .before .before .before .before .before .before .before .args .bytes .now) (λ i. omega (arith, c .before .before .before .before .before .before .before .shared-slice-known .given i)) (six c)
+
+header-no-requires : tie.Need-header-no-requires
+header-no-requires c κs = search needs
+
+returns : tie.Need-returns
+returns c =
+    let six = six (c .before .before .before) in
+    let n : c .before .header-no .result ≡ headerNo (headerOf (c .before .before .before .before .take-numbers .last .0)) = cc in
+    rw n (sym (check-no-header (c .before .before .before .before .before .before .before .before .before .before .before .args .bytes .now) six (λ z. c .if1 .taken (n ∙ z))))
+
+cast-count : tie.Need-cast-count
+cast-count c = search needs
+
+mul-count : tie.Need-mul-count
+mul-count c = search needs
+
+skip-numbers-requires-2 : tie.Need-skip-numbers-requires-2
+skip-numbers-requires-2 c κs = search needs
+
+ended-requires : tie.Need-ended-requires
+ended-requires c κs = search needs
+
+enum-known-place-2 : tie.Need-enum-known-place-2
+enum-known-place-2 c = search needs
+
+returns-2 : tie.Need-returns-2
+returns-2 c =
+    let six = six (c .before .before .before .before .before .before) in
+    let h : c .before .before .before .before .before .header-of .result ≡ headerOf (c .before .before .before .before .before .before .before .take-numbers .last .0) = c .before .before .before .before .before .header-of .ensures in
+    let n : headerNo (headerOf (c .before .before .before .before .before .before .before .take-numbers .last .0)) ≡ 0 = ap headerNo (sym h) ∙ sym (c .before .before .before .before .header-no .ensures) ∙ c .before .before .before .if1 .left in
+    c .ended .ensures ∙ rw (c .before .skip-numbers2 .ensures, h) (sym (check-events (c .before .before .before .before .before .before .before .before .before .before .before .before .before .before .args .bytes .now) six n))
+
+returns-3 : tie.Need-returns-3
+returns-3 c =
+    let bytes = c .before .before .before .before .before .args .bytes .now in
+    let e : placeOf (plain 6 limit.Schedule bytes 0) ≡ place.Refused (c .before .place2 .given .0 .0) = cc in
+    sym (check-no-six bytes (place-refused (plain 6 limit.Schedule bytes 0) e))
+
+pub check-spec : {M : Type 1} → statement M
+check-spec =
+    tie.close
+    (tie.spec
+    skip-numbers-requires
+    enum-known-place
+    slice-aggregate-take-numbers
+    take-numbers-requires
+    header-of-requires
+    header-no-requires
+    returns
+    cast-count
+    mul-count
+    skip-numbers-requires-2
+    ended-requires
+    enum-known-place-2
+    returns-2
+    returns-3)

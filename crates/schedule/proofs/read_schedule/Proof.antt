@@ -1,0 +1,70 @@
+-- `schedule::read_schedule` meets its contract: the room is filled only where the whole form is right and it is large enough. Assumes nothing.
+use mathlib.Core.Path.{_≡_}
+use borrow.Author.Needs.{needs}
+use Rattle.schedule.specs.Steps.{checked}
+use Rattle.schedule.specs.declared.Checked.the-variants as form
+use Rattle.schedule.proofs.Parts.{check-form, check-refused}
+use Rattle.schedule.proofs.Answers.{no-form, small, filled}
+use Rattle.schedule.proofs.read_schedule.Statement.{statement}
+use Rattle.schedule.proofs.read_schedule.Tie as tie
+
+check-requires : tie.Need-check-requires
+check-requires c κs = search needs
+
+enum-known-answer : tie.Need-enum-known-answer
+enum-known-answer c = search needs
+
+cast-count : tie.Need-cast-count
+cast-count c = search needs
+
+mul-count : tie.Need-mul-count
+mul-count c = search needs
+
+returns : tie.Need-returns
+returns c =
+    let a = c .before .before .before .before .before .before .before .before .args in
+    let g = c .before .before .before .answer .given .0 in
+    let e : checked (a .bytes .now) ≡ form.Form (g .0) (g .1 .0) = cc in
+    let f = check-form (a .bytes .now) e in
+    let w = small (a .room .now) (f .vs) (f .next) (rw (f .header) (c .if1 .taken)) in
+    rw (f .read) (w .answer, w .after)
+
+take-numbers-requires : tie.Need-take-numbers-requires
+take-numbers-requires c κs = search needs
+
+enum-known-answer-2 : tie.Need-enum-known-answer-2
+enum-known-answer-2 c = search needs
+
+same-length : tie.Need-same-length
+same-length c = search needs
+
+returns-2 : tie.Need-returns-2
+returns-2 c =
+    let a = c .before .before .before .before .before .before .before .before .before .before .before .before .args in
+    let g = c .before .before .before .before .before .before .before .answer .given .0 in
+    let e : checked (a .bytes .now) ≡ form.Form (g .0) (g .1 .0) = cc in
+    let f = check-form (a .bytes .now) e in
+    let w = filled (a .room .now) (f .vs) (f .next) (rw (f .header) (c .before .before .before .before .if1 .left)) in
+    rw (f .read) (rw (f .header) at (w .answer), rw (c .before .before .take-numbers .ensures, f .taken) (w .after))
+
+returns-3 : tie.Need-returns-3
+returns-3 c =
+    let a = c .before .before .before .before .before .before .args in
+    let e : checked (a .bytes .now) ≡ form.Refused (c .before .answer2 .given .0 .0) = cc in
+    let w = no-form (a .room .now) (c .before .answer2 .given .0 .0) in
+    rw (check-refused (a .bytes .now) e) (w .answer, w .after)
+
+pub read-schedule-spec : {M : Type 1} → statement M
+read-schedule-spec =
+    tie.close
+    (tie.spec
+    check-requires
+    enum-known-answer
+    cast-count
+    mul-count
+    returns
+    take-numbers-requires
+    enum-known-answer-2
+    same-length
+    returns-2
+    returns-3)

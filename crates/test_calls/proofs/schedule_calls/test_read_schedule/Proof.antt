@@ -1,0 +1,48 @@
+use mathlib.Core.Path.{_≡_}
+use denote.Ref.{now}
+use Rattle.schedule.specs.Schedule.{readSchedule, readAnswer}
+use Rattle.schedule.specs.declared.ScheduleRead.the-variants as schedule
+use borrow.Author.Needs.{needs}
+use Rattle.test_calls.proofs.schedule_calls.test_read_schedule.Statement.{statement}
+use Rattle.test_calls.proofs.schedule_calls.test_read_schedule.Tie as tie
+
+read-schedule-requires : tie.Need-read-schedule-requires
+read-schedule-requires c κs = search needs
+
+enum-known-answer : tie.Need-enum-known-answer
+enum-known-answer c = search needs
+
+enum-known-answer-2 : tie.Need-enum-known-answer-2
+enum-known-answer-2 c = search needs
+
+same-length : tie.Need-same-length
+same-length c = search needs
+
+returns : tie.Need-returns
+returns c =
+    let a = c .before .before .before .before .before .before .before .before .before .before .before .args in
+    let g = c .before .before .before .answer .given .0 in
+    let e : readAnswer (readSchedule (now (a .bytes))) (now (a .room)) ≡ schedule.Events (g .0) = cc in
+    (simp e, cc, simp e)
+
+same-length-2 : tie.Need-same-length-2
+same-length-2 c = search needs
+
+returns-2 : tie.Need-returns-2
+returns-2 c =
+    let a = c .before .before .before .before .before .before .before .before .before .args in
+    let g = c .before .answer2 .given .0 in
+    let e : readAnswer (readSchedule (now (a .bytes))) (now (a .room)) ≡ schedule.Refused (g .0) = cc in
+    (simp e, cc, simp e)
+
+pub test-read-schedule-spec : {M : Type 1} → statement M
+test-read-schedule-spec =
+    tie.close
+    (tie.spec
+    read-schedule-requires
+    enum-known-answer
+    enum-known-answer-2
+    same-length
+    returns
+    same-length-2
+    returns-2)

@@ -1,0 +1,48 @@
+use mathlib.Core.Path.{_≡_}
+use denote.Ref.{now}
+use Rattle.scan_table.specs.Table.{writeAnswer}
+use Rattle.numbers.specs.declared.Written.the-variants as written
+use borrow.Author.Needs.{needs}
+use Rattle.test_calls.proofs.table_calls.test_write_table.Statement.{statement}
+use Rattle.test_calls.proofs.table_calls.test_write_table.Tie as tie
+
+write-table-requires : tie.Need-write-table-requires
+write-table-requires c κs = search needs
+
+enum-known-answer : tie.Need-enum-known-answer
+enum-known-answer c = search needs
+
+enum-known-answer-2 : tie.Need-enum-known-answer-2
+enum-known-answer-2 c = search needs
+
+same-length : tie.Need-same-length
+same-length c = search needs
+
+returns : tie.Need-returns
+returns c =
+    let a = c .before .before .before .before .before .before .before .before .before .args in
+    let g = c .before .answer .given .0 in
+    let e : writeAnswer (now (a .fields)) (now (a .buffer)) ≡ written.Next (g .0) = cc in
+    (simp e, cc, simp e)
+
+same-length-2 : tie.Need-same-length-2
+same-length-2 c = search needs
+
+returns-2 : tie.Need-returns-2
+returns-2 c =
+    let a = c .before .before .before .before .before .before .before .before .before .args in
+    let g = c .before .answer2 .given .0 in
+    let e : writeAnswer (now (a .fields)) (now (a .buffer)) ≡ written.Refused (g .0) = cc in
+    (simp e, cc, simp e)
+
+pub test-write-table-spec : {M : Type 1} → statement M
+test-write-table-spec =
+    tie.close
+    (tie.spec
+    write-table-requires
+    enum-known-answer
+    enum-known-answer-2
+    same-length
+    returns
+    same-length-2
+    returns-2)

@@ -17,6 +17,8 @@ use Rattle.scan_table.specs.declared.TableRead.{TableRead}
 use Rattle.scan_table.specs.declared.TableRead.the-variants as table
 use Rattle.schedule.specs.declared.ScheduleRead.{ScheduleRead}
 use Rattle.schedule.specs.declared.ScheduleRead.the-variants as schedule
+use Rattle.shelf.specs.declared.Shelf.{Shelf}
+use Rattle.shelf.specs.declared.Shelf.the-variants as shelf
 use Rattle.sizes.specs.declared.Sizes.{Sizes}
 
 abbrev pub scansOf : ℕ → Scans
@@ -87,3 +89,9 @@ sizesOf five = record {
   slots = getD five 3 0;
   scans = getD five 4 0;
 }
+
+-- whether a scan is shown, its number, its shelf and its time; a refusal leaves what stood there before
+abbrev pub shelfNumbers : Shelf → List ℕ → List ℕ
+shelfNumbers shelf.Nowhere old = 0 ∷ 0 ∷ 0 ∷ 0 ∷ []
+shelfNumbers (shelf.Shown scan place time) old = 1 ∷ scan .0 ∷ place ∷ time ∷ []
+shelfNumbers (shelf.Refused r) old = old

@@ -3,4 +3,5 @@ pub mod clock_calls;
 pub mod number_calls;
 pub mod schedule_calls;
 pub mod set_calls;
+pub mod shelf_calls;
 pub mod table_calls;

@@ -37,6 +37,52 @@ mod c {
         ) -> u8;
 
         pub fn test_scan_time(dock: u32, scan: u32, time: u64, out: *mut u64) -> u8;
+
+        pub fn test_read_table(
+            room: *mut u64,
+            room_length: usize,
+            bytes: *const u8,
+            length: usize,
+            scans: *mut usize,
+        ) -> u8;
+        pub fn test_write_table(
+            buffer: *mut u8,
+            length: usize,
+            fields: *const u64,
+            fields_length: usize,
+            next: *mut usize,
+        ) -> u8;
+
+        pub fn test_read_schedule(
+            room: *mut u64,
+            room_length: usize,
+            bytes: *const u8,
+            length: usize,
+            header: *mut u16,
+        ) -> u8;
+        pub fn test_write_schedule(
+            buffer: *mut u8,
+            length: usize,
+            fields: *const u64,
+            fields_length: usize,
+            sizes: *const u16,
+            next: *mut usize,
+        ) -> u8;
+
+        pub fn test_where_is(
+            fields: *const u64,
+            fields_length: usize,
+            set: u64,
+            tag: u64,
+            answer: *mut u64,
+        ) -> u8;
+        pub fn test_where_is_written(
+            bytes: *const u8,
+            length: usize,
+            set: u64,
+            tag: u64,
+            answer: *mut u64,
+        ) -> u8;
     }
 }
 
@@ -136,4 +182,92 @@ pub fn write_number(buffer: &mut [u8], at: usize, value: u64, limit: u32, next: 
 pub fn scan_time(dock: u32, scan: u32, time: u64, out: &mut u64) -> u8 {
     // SAFETY: the call writes the cell only, which is borrowed for the call.
     unsafe { c::test_scan_time(dock, scan, time, out) }
+}
+
+/// Reads a scan table into the room, four numbers for each scan: tag, shelf,
+/// device, time.
+pub fn read_table(room: &mut [u64], bytes: &[u8], scans: &mut usize) -> u8 {
+    // SAFETY: the call writes `room_length` numbers from the room's pointer at
+    // most, and the cell, and reads `length` bytes at most; all three are
+    // borrowed for the call.
+    unsafe {
+        c::test_read_table(
+            room.as_mut_ptr(),
+            room.len(),
+            bytes.as_ptr(),
+            bytes.len(),
+            scans,
+        )
+    }
+}
+
+/// Writes the scan table of these numbers, four for each scan.
+pub fn write_table(buffer: &mut [u8], fields: &[u64], next: &mut usize) -> u8 {
+    // SAFETY: the call writes `length` bytes from the buffer's pointer at most,
+    // and the cell, and reads `fields_length` numbers at most; all three are
+    // borrowed for the call.
+    unsafe {
+        c::test_write_table(
+            buffer.as_mut_ptr(),
+            buffer.len(),
+            fields.as_ptr(),
+            fields.len(),
+            next,
+        )
+    }
+}
+
+/// Reads a schedule into the room, three numbers for each event: code, a, b.
+/// The header is P, A, L, M, S, E.
+pub fn read_schedule(room: &mut [u64], bytes: &[u8], header: &mut [u16; 6]) -> u8 {
+    // SAFETY: the call writes `room_length` numbers from the room's pointer at
+    // most, and the six of the header, and reads `length` bytes at most; all
+    // three are borrowed for the call.
+    unsafe {
+        c::test_read_schedule(
+            room.as_mut_ptr(),
+            room.len(),
+            bytes.as_ptr(),
+            bytes.len(),
+            header.as_mut_ptr(),
+        )
+    }
+}
+
+/// Writes the schedule of these numbers, three for each event. The sizes are
+/// P, A, L, M, S.
+pub fn write_schedule(
+    buffer: &mut [u8],
+    fields: &[u64],
+    sizes: &[u16; 5],
+    next: &mut usize,
+) -> u8 {
+    // SAFETY: the call writes `length` bytes from the buffer's pointer at most,
+    // and the cell, and reads `fields_length` numbers and five sizes at most;
+    // all four are borrowed for the call.
+    unsafe {
+        c::test_write_schedule(
+            buffer.as_mut_ptr(),
+            buffer.len(),
+            fields.as_ptr(),
+            fields.len(),
+            sizes.as_ptr(),
+            next,
+        )
+    }
+}
+
+/// The newest scan of the tag among those of the set, asked of a table's
+/// numbers. The answer is found (0 or 1), scan, shelf, time.
+pub fn where_is(fields: &[u64], set: u64, tag: u64, answer: &mut [u64; 4]) -> u8 {
+    // SAFETY: the call reads `fields_length` numbers from the slice's pointer
+    // at most, and writes the four; both are borrowed for the call.
+    unsafe { c::test_where_is(fields.as_ptr(), fields.len(), set, tag, answer.as_mut_ptr()) }
+}
+
+/// The same, asked of a table's written form.
+pub fn where_is_written(bytes: &[u8], set: u64, tag: u64, answer: &mut [u64; 4]) -> u8 {
+    // SAFETY: the call reads `length` bytes from the slice's pointer at most,
+    // and writes the four; both are borrowed for the call.
+    unsafe { c::test_where_is_written(bytes.as_ptr(), bytes.len(), set, tag, answer.as_mut_ptr()) }
 }

@@ -16,9 +16,13 @@ use suite::{Outcome, Test, Tests};
 mod calls;
 mod clock;
 mod examples;
+mod forms;
 mod numbers;
+mod schedules;
 mod sets;
+mod shelf;
 mod suite;
+mod tables;
 
 /// The seed of every test's generator.
 const SEED: u64 = 0x5ca9_7ab1_e0d0_c001;
@@ -28,6 +32,9 @@ const SUITES: &[(&str, Tests)] = &[
     ("numbers", numbers::TESTS),
     ("sets", sets::TESTS),
     ("clock", clock::TESTS),
+    ("tables", tables::TESTS),
+    ("schedules", schedules::TESTS),
+    ("shelf", shelf::TESTS),
     ("examples", examples::TESTS),
 ];
 

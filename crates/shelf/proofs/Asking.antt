@@ -1,0 +1,162 @@
+-- The steps of the shelf question: one scan more, the tests of a table, the tests of a question, and a table that was read into room. Assumes
+-- nothing.
+use mathlib.Core.Path.{_≡_, refl, sym, ap, _∙_}
+use mathlib.Core.Bool.{Bool, true, false}
+use mathlib.Core.List.{List}
+use mathlib.Core.Logic.{_⊎_, inl, inr, ⊎-elim}
+use Prim.Native.Nat.{ℕ, zero, suc, _+_, _-_, _*_, _%_, _^_, _<_, _≤_}
+use native.Mathlib.Omega.{arith}
+use native.Mathlib.Numerals.{add-one}
+use lib.Dec.{eqb}
+use lib.ListN.{length, drop, getD, List·getD-append}
+use lib.Seq.{sets, sets-eq}
+use borrow.Author.Tests.{lt-ltb, le-ltb, eq-eqb, ne-eqb}
+use Rattle.choice.specs.Choice.{if_then_else_}
+use Rattle.sets.specs.Scans.{fits}
+use Rattle.sets.specs.declared.scans.Scans.{Scans}
+use Rattle.sizes.specs.Sizes.{scansInRange}
+use Rattle.numbers.specs.declared.Refusal.{Refusal}
+use Rattle.forms.specs.Forms.{Outcome, got, refused}
+use Rattle.forms.proofs.Steps.{and-right}
+use Rattle.scan_table.specs.declared.TableRead.the-variants as table
+use Rattle.scan_table.specs.Table.{scanTests, scanAt, scansIn, wholeTable, recordsNo, readTable, readAnswer, afterRead}
+use Rattle.scan_table.proofs.Testing.{scans-ranged}
+use Rattle.scan_table.proofs.Tables.{table-got, checked-got}
+use Rattle.scan_table.proofs.TableLaws.{Narrow, table-count, read-refusals, read-scans}
+use Rattle.shelf.specs.declared.Newest.{Newest}
+use Rattle.shelf.specs.declared.Shelf.the-variants as shelf
+use Rattle.shelf.specs.Shelf.{seenAt, isCandidate, better, newest, shown, refusedShelf, questionNo, ask, tableNo, whereIs, whereIsWritten}
+
+-- ---- one scan more
+
+-- a candidate is compared with what was found; any other scan is passed over
+pub newest-one : (fields : List ℕ) (set : Scans) (tag i : ℕ) {found : Newest}
+    → ((isCandidate (seenAt fields i) set tag ≡ true) × (found ≡ better (newest i fields set tag) (seenAt fields i)))
+    ⊎ ((isCandidate (seenAt fields i) set tag ≡ false) × (found ≡ newest i fields set tag))
+    → found ≡ newest (i + 1) fields set tag
+unfolding newest
+newest-one fields set tag i (inl (c, e)) = rw (add-one i, c) e
+newest-one fields set tag i (inr (c, e)) = rw (add-one i, c) e
+
+-- two tables agree on their first n scans
+abbrev pub Agree : ℕ → List ℕ → List ℕ → Type 0
+Agree n a b = (k : ℕ) → k < n * 4 → getD a k 0 ≡ getD b k 0
+
+-- then so do their scans
+scan-same : (n : ℕ) (a b : List ℕ) → Agree n a b → (i : ℕ) → i < n → scanAt a i ≡ scanAt b i
+unfolding scanAt
+scan-same n a b h i l =
+    let t = h (i * 4) (omega arith) in
+    let s = h (i * 4 + 1) (omega arith) in
+    let d = h (i * 4 + 2) (omega arith) in
+    let m = h (i * 4 + 3) (omega arith) in
+    cc
+
+-- the newest of the first n scans is the same in both
+pub newest-same : (n : ℕ) (a b : List ℕ) (set : Scans) (tag : ℕ) → Agree n a b → newest n a set tag ≡ newest n b set tag
+unfolding newest
+newest-same zero a b set tag h = refl
+newest-same (suc n) a b set tag h =
+    let r = newest-same n a b set tag (λ k l. h k (omega arith)) in
+    let s = scan-same (suc n) a b h n (omega arith) in
+    rw (r, s)
+
+-- ---- the table
+
+module _ (fields : List ℕ) where
+  -- its numbers are not whole scans
+  pub table-uneven : (length fields % 4 ≡ 0 → ⊥) → tableNo fields ≡ 1
+  unfolding tableNo wholeTable
+  table-uneven h = rw (ne-eqb (length fields % 4) 0 h)
+
+  -- it has too many scans, or none
+  pub table-unsized : length fields % 4 ≡ 0 → scansInRange (scansIn fields) ≡ false → tableNo fields ≡ 1
+  unfolding tableNo wholeTable
+  table-unsized e h = rw (eq-eqb (length fields % 4) 0 e, h)
+
+  -- it is as its scans are
+  pub table-whole : length fields % 4 ≡ 0 → scansInRange (scansIn fields) ≡ true → tableNo fields ≡ recordsNo scanTests (scansIn fields) fields 0
+  unfolding tableNo wholeTable
+  table-whole e h = rw (eq-eqb (length fields % 4) 0 e, h)
+
+  -- without a refusal it has at most 64 scans
+  pub table-most : tableNo fields ≡ 0 → scansIn fields ≤ 64
+  unfolding tableNo wholeTable
+  table-most e = go (wholeTable fields) refl e
+    where
+      go : (t : Bool) → wholeTable fields ≡ t → (if t then recordsNo scanTests (scansIn fields) fields 0 else 1) ≡ 0 → scansIn fields ≤ 64
+      go false q h = absurd (omega arith)
+      go true q h = scans-ranged (scansIn fields) (and-right (eqb (length fields % 4) 0) (scansInRange (scansIn fields)) q) .1
+
+-- ---- the question
+
+module _ (n : ℕ) (fields : List ℕ) (set : Scans) (tag : ℕ) where
+  -- the tag is too large
+  pub ask-tag : 2 ^ 32 - 1 < tag → ask n fields set tag ≡ refusedShelf 3
+  unfolding ask questionNo
+  ask-tag h = rw (lt-ltb (2 ^ 32 - 1) tag h)
+
+  -- the set holds a scan not below n
+  pub ask-set : tag ≤ 2 ^ 32 - 1 → fits set n ≡ false → ask n fields set tag ≡ refusedShelf 3
+  unfolding ask questionNo
+  ask-set h e = rw (le-ltb (2 ^ 32 - 1) tag h, e)
+
+  -- the newest is shown
+  pub ask-newest : tag ≤ 2 ^ 32 - 1 → fits set n ≡ true → ask n fields set tag ≡ shown (newest n fields set tag)
+  unfolding ask questionNo
+  ask-newest h e = rw (le-ltb (2 ^ 32 - 1) tag h, e)
+
+module _ (fields : List ℕ) (set : Scans) (tag : ℕ) where
+  -- the table is refused
+  pub where-refused : (tableNo fields ≡ 0 → ⊥) → whereIs fields set tag ≡ refusedShelf (tableNo fields)
+  unfolding whereIs
+  where-refused h = rw (ne-eqb (tableNo fields) 0 h)
+
+  -- the question is asked
+  pub where-asked : tableNo fields ≡ 0 → whereIs fields set tag ≡ ask (scansIn fields) fields set tag
+  unfolding whereIs
+  where-asked h = rw (eq-eqb (tableNo fields) 0 h)
+
+-- ---- a table that was read into room
+
+-- a table that was read has at most 64 scans
+pub scans-most : (bytes : List ℕ) {vs : List ℕ} {next : ℕ} → readTable bytes ≡ got vs next → getD vs 0 0 ≤ 64
+scans-most bytes e =
+    let t = table-got bytes e in
+    rw (t .all) (scans-ranged (t .scans) (t .ranged) .1)
+
+-- so it is with a table that was read into room
+pub written-most : (bytes room : List ℕ) {n : ℕ} → readAnswer (readTable bytes) room ≡ table.Scans n → n ≤ 64
+written-most bytes room {n} e =
+    let f = read-scans (readTable bytes) room n e in
+    rw (f .scans) (scans-most bytes (f .accepted))
+
+-- tables that agree have the same question
+pub ask-same : (n : ℕ) (a b : List ℕ) (set : Scans) (tag : ℕ) → Agree n a b → ask n a set tag ≡ ask n b set tag
+unfolding ask
+ask-same n a b set tag h = rw (newest-same n a b set tag h)
+
+-- numbers stored at the start of room that holds them stand there
+stored-agree : (n : ℕ) (room vs : List ℕ) → length vs ≡ n * 4 → n * 4 ≤ length room → Agree n (sets room 0 vs) vs
+stored-agree n room vs l f k h = rw (sets-eq vs room 0 (omega arith)) (List·getD-append vs (drop (0 + length vs) room) 0 k (omega arith))
+
+module _ (bytes room : List ℕ) (set : Scans) (tag : ℕ) where
+  -- the table is read: the question on the room is the question on the table
+  pub written-asked : (n : ℕ) → readAnswer (readTable bytes) room ≡ table.Scans n → ask n (afterRead (readTable bytes) room) set tag ≡ whereIsWritten (readTable bytes) set tag
+  unfolding whereIsWritten
+  written-asked n e =
+      let f = read-scans (readTable bytes) room n e in
+      let a = stored-agree n room (drop 1 (f .vs)) (table-count bytes (f .accepted) ∙ ap (λ (k : ℕ). k * 4) (sym (f .scans))) (f .fits) in
+      let w : whereIsWritten (readTable bytes) set tag ≡ ask (getD (f .vs) 0 0) (drop 1 (f .vs)) set tag = ap (λ (o : Outcome). whereIsWritten o set tag) (f .accepted) in
+      rw (f .filled, w, ← f .scans) (ask-same n (sets room 0 (drop 1 (f .vs))) (drop 1 (f .vs)) set tag a)
+
+  -- the table is refused: room of 256 numbers is enough for every table
+  pub written-refused : (r : Refusal) → 256 ≤ length room → readAnswer (readTable bytes) room ≡ table.Refused r → shelf.Refused r ≡ whereIsWritten (readTable bytes) set tag
+  unfolding whereIsWritten
+  written-refused r h e =
+      ⊎-elim
+      (λ (q : readTable bytes ≡ refused r). rw q)
+      (λ (q : (r .no ≡ 8) × Narrow (readTable bytes) room).
+      let w = checked-got (readTable bytes) (q .1 .accepted) in
+      absurd (omega (arith, q .1 .short, w .scans, scans-most bytes (w .was))))
+      (read-refusals (readTable bytes) room r e)

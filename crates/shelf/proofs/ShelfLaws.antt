@@ -1,0 +1,516 @@
+-- The laws of the shelf question. Only the order's own laws look into the order. Assumes nothing.
+use mathlib.Core.Path.{_≡_, refl, sym, ap, _∙_}
+use mathlib.Core.Bool.{Bool, true, false, not, _&&_, _||_, false≢true}
+use mathlib.Core.List.{List}
+use mathlib.Core.Logic.{_⊎_, inl, inr, ⊎-elim, ⊎-map}
+use Prim.Native.Nat.{ℕ, zero, suc, _+_, _-_, _^_, _<_, _≤_}
+use native.Mathlib.Omega.{arith}
+use lib.Dec.{eqb, ltb}
+use lib.ListN.{drop, getD}
+use borrow.Author.Tests.{ltb-true, ltb-false, lt-ltb, le-ltb, eqb-true, eqb-false, eq-eqb}
+use Rattle.choice.specs.Choice.{if_then_else_}
+use Rattle.sets.specs.Scans.{holds, _∈_, _⊆_, fits}
+use Rattle.sets.specs.declared.ScanId.{ScanId}
+use Rattle.sets.specs.declared.scans.Scans.{Scans}
+use Rattle.sets.proofs.ScanLaws.{∈-⊆}
+use Rattle.numbers.specs.declared.Refusal.{Refusal}
+use Rattle.forms.specs.Forms.{Outcome, got, refused, rowNo}
+use Rattle.forms.proofs.Steps.{and-left, and-right}
+use Rattle.scan_table.specs.declared.TableRead.the-variants as table
+use Rattle.scan_table.specs.Table as scan
+use Rattle.scan_table.specs.Table.{tagNo, deviceNo, timeNo, scanTests, scanAt, scansIn, fieldsOf, wholeTable, recordsNo, readTable, checkAnswer}
+use Rattle.scan_table.proofs.Refusals.{All, ended, and, gives-one, gives-first, row-gives}
+use Rattle.scan_table.proofs.Tables.{table-got}
+use Rattle.scan_table.proofs.TableLaws.{ReadRefusal, table-count, table-in-range, table-refusals}
+use Rattle.shelf.specs.declared.Seen.{Seen}
+use Rattle.shelf.specs.declared.Newest.{Newest}
+use Rattle.shelf.specs.declared.Newest.the-variants.{Nothing, Found}
+use Rattle.shelf.specs.declared.Shelf.{Shelf}
+use Rattle.shelf.specs.declared.Shelf.the-variants as answer
+use Rattle.shelf.specs.Shelf.{seenAt, comesBefore, isCandidate, better, newest, shown, refusedShelf, questionNo, ask, tableNo, whereIs, whereIsWritten, shelfNo}
+use Rattle.shelf.proofs.Asking.{table-whole, ask-newest, where-asked}
+
+-- ---- the order
+
+-- of two times, and two numbers: the first time is lower, or they are equal and the first number is lower
+abbrev Below : (s t i j : ℕ) → Type 0
+Below s t i j = (s < t) ⊎ ((s ≡ t) × (i < j))
+
+abbrev Before : Seen → Seen → Type 0
+Before a b = Below (a .scan .time) (b .scan .time) (a .number .0) (b .number .0)
+
+-- what the test says
+before-true : (a b : Seen) → comesBefore a b ≡ true → Before a b
+unfolding comesBefore
+before-true a b e = go (ltb (a .scan .time) (b .scan .time)) refl e
+  where
+    go : (p : Bool) → ltb (a .scan .time) (b .scan .time) ≡ p → (p || eqb (a .scan .time) (b .scan .time) && ltb (a .number .0) (b .number .0)) ≡ true → Before a b
+    go true q h = inl (ltb-true (a .scan .time) (b .scan .time) q)
+    go false q h =
+        let t = eqb (a .scan .time) (b .scan .time) in
+        let n = ltb (a .number .0) (b .number .0) in
+        inr (eqb-true (a .scan .time) (b .scan .time) (and-left t n h), ltb-true (a .number .0) (b .number .0) (and-right t n h))
+
+-- and back
+true-before : (a b : Seen) → Before a b → comesBefore a b ≡ true
+unfolding comesBefore
+true-before a b (inl h) = rw (lt-ltb (a .scan .time) (b .scan .time) h)
+true-before a b (inr (e, h)) =
+    let l = le-ltb (a .scan .time) (b .scan .time) (omega arith) in
+    rw (l, eq-eqb (a .scan .time) (b .scan .time) e, lt-ltb (a .number .0) (b .number .0) h)
+
+-- no scan comes before itself
+pub before-irreflexive : (a : Seen) → comesBefore a a ≡ false
+unfolding comesBefore
+before-irreflexive a =
+    rw (le-ltb (a .scan .time) (a .scan .time) (omega arith), eq-eqb (a .scan .time) (a .scan .time) refl, le-ltb (a .number .0) (a .number .0) (omega arith))
+
+-- what comes before what comes before a scan comes before it
+pub before-transitive : (a b c : Seen) → comesBefore a b ≡ true → comesBefore b c ≡ true → comesBefore a c ≡ true
+before-transitive a b c p q = true-before a c (go (before-true a b p) (before-true b c q))
+  where
+    go : Before a b → Before b c → Before a c
+    go (inl h) (inl k) = inl (omega arith)
+    go (inl h) (inr k) = inl (omega arith)
+    go (inr h) (inl k) = inl (omega arith)
+    go (inr h) (inr k) = inr (omega arith, omega arith)
+
+-- of two different numbers, one is the lower, after the times
+either : (s t i j : ℕ) → (i ≡ j → ⊥) → Below s t i j ⊎ Below t s j i
+either s t i j h = go (ltb s t) refl (ltb t s) refl (ltb i j) refl
+  where
+    go : (p : Bool) → ltb s t ≡ p → (q : Bool) → ltb t s ≡ q → (r : Bool) → ltb i j ≡ r → Below s t i j ⊎ Below t s j i
+    go true e q f r g = inl (inl (ltb-true s t e))
+    go false e true f r g = inr (inl (ltb-true t s f))
+    go false e false f true g = inl (inr (omega (arith, ltb-false s t e, ltb-false t s f), ltb-true i j g))
+    go false e false f false g = inr (inr (omega (arith, ltb-false s t e, ltb-false t s f), omega (arith, ltb-false i j g, h)))
+
+-- of two scans of one table, one comes before the other
+pub before-total : (fields : List ℕ) (i j : ℕ) → (i ≡ j → ⊥)
+    → (comesBefore (seenAt fields i) (seenAt fields j) ≡ true) ⊎ (comesBefore (seenAt fields j) (seenAt fields i) ≡ true)
+before-total fields i j h =
+    let a = seenAt fields i in
+    let b = seenAt fields j in
+    ⊎-map (true-before a b) (true-before b a) (either (a .scan .time) (b .scan .time) i j h)
+
+-- what comes before a scan is not later
+pub later-time : (a b : Seen) → comesBefore a b ≡ true → a .scan .time ≤ b .scan .time
+later-time a b e = go (before-true a b e)
+  where
+    go : Before a b → a .scan .time ≤ b .scan .time
+    go (inl h) = omega arith
+    go (inr h) = omega arith
+
+-- what does not come before a scan is not earlier
+pub not-before-time : (a b : Seen) → comesBefore b a ≡ false → a .scan .time ≤ b .scan .time
+not-before-time a b e = go (ltb (b .scan .time) (a .scan .time)) refl
+  where
+    go : (t : Bool) → ltb (b .scan .time) (a .scan .time) ≡ t → a .scan .time ≤ b .scan .time
+    go true q = absurd (false≢true (sym e ∙ true-before b a (inl (ltb-true (b .scan .time) (a .scan .time) q))))
+    go false q = ltb-false (b .scan .time) (a .scan .time) q
+
+-- a test that cannot give true gives false
+is-false : (t : Bool) → (t ≡ true → ⊥) → t ≡ false
+is-false true h = absurd (h refl)
+is-false false h = refl
+
+-- of two scans not both come before the other
+pub before-antisymmetric : (a b : Seen) → comesBefore a b ≡ true → comesBefore b a ≡ false
+before-antisymmetric a b e =
+    is-false (comesBefore b a) (λ q. false≢true (sym (before-irreflexive a) ∙ before-transitive a b a e q))
+
+-- what comes after a scan comes before nothing that the scan does not come before
+before-behind : (a b c : Seen) → comesBefore a b ≡ true → comesBefore a c ≡ false → comesBefore b c ≡ false
+before-behind a b c p q = is-false (comesBefore b c) (λ r. false≢true (sym q ∙ before-transitive a b c p r))
+
+-- ---- candidates
+
+module _ (seen : Seen) (set : Scans) (tag : ℕ) where
+  -- a candidate has the tag and is in the set
+  pub candidate-true : isCandidate seen set tag ≡ true → (seen .scan .tag ≡ tag) × (seen .number .0 ∈ set)
+  unfolding isCandidate
+  candidate-true e =
+      let t = eqb (seen .scan .tag) tag in
+      let s = holds set (seen .number .0) in
+      (eqb-true (seen .scan .tag) tag (and-left t s e), record { held = and-right t s e })
+
+  -- and what has the tag and is in the set is one
+  pub true-candidate : seen .scan .tag ≡ tag → seen .number .0 ∈ set → isCandidate seen set tag ≡ true
+  unfolding isCandidate
+  true-candidate e m = rw (eq-eqb (seen .scan .tag) tag e, m .held)
+
+-- a candidate of a set is one of every set that contains it
+pub candidate-⊆ : (seen : Seen) {a b : Scans} (tag : ℕ) → a ⊆ b → isCandidate seen a tag ≡ true → isCandidate seen b tag ≡ true
+candidate-⊆ seen {a} {b} tag h e =
+    let c = candidate-true seen a tag e in
+    true-candidate seen b tag (c .0) (∈-⊆ (c .1) h)
+
+-- ---- the newest
+
+-- what holds of each number below n, and of n, holds of each below n + 1
+below-suc : {P : ℕ → Type 0} {n : ℕ} → ((i : ℕ) → i < n → P i) → P n → (i : ℕ) → i < suc n → P i
+below-suc {P} {n} h l i k = go (ltb i n) refl
+  where
+    go : (t : Bool) → ltb i n ≡ t → P i
+    go true e = h i (ltb-true i n e)
+    go false e =
+        let q : i ≡ n = omega (arith, ltb-false i n e) in
+        rw q l
+
+nothing-found : {s : Seen} → Nothing ≡ Found s → ⊥
+nothing-found e = let z : _≡_ {A = ℕ} 0 1 = cc in omega arith
+
+module _ (fields : List ℕ) (set : Scans) (tag : ℕ) where
+  -- no scan below n is a candidate
+  abbrev pub NoCandidate : ℕ → Type 0
+  NoCandidate n = (i : ℕ) → i < n → isCandidate (seenAt fields i) set tag ≡ false
+
+  -- s is the last in the order of the candidates below n: one of them, and none comes after it
+  pub record Last (n : ℕ) (s : Seen) : Type 0 where
+    pub place : ℕ
+    pub below : place < n
+    pub is : s ≡ seenAt fields place
+    pub candidate : isCandidate (seenAt fields place) set tag ≡ true
+    pub last : (j : ℕ) → j < n → isCandidate (seenAt fields j) set tag ≡ true → comesBefore s (seenAt fields j) ≡ false
+
+  -- nothing was found: one scan more is the last
+  first-last : {n : ℕ} → NoCandidate n → isCandidate (seenAt fields n) set tag ≡ true → Last (suc n) (seenAt fields n)
+  first-last {n} h e =
+      record {
+        place = n;
+        below = omega arith;
+        is = refl;
+        candidate = e;
+        last = below-suc (λ j l c. absurd (false≢true (sym (h j l) ∙ c))) (λ c. before-irreflexive (seenAt fields n));
+      }
+
+  -- one scan more comes after the last: it is the last
+  next-last : {n : ℕ} {s : Seen} → Last n s → isCandidate (seenAt fields n) set tag ≡ true → comesBefore s (seenAt fields n) ≡ true → Last (suc n) (seenAt fields n)
+  next-last {n} {s} p e b =
+      record {
+        place = n;
+        below = omega arith;
+        is = refl;
+        candidate = e;
+        last = below-suc (λ j l c. before-behind s (seenAt fields n) (seenAt fields j) b (p .last j l c)) (λ c. before-irreflexive (seenAt fields n));
+      }
+
+  -- one scan more does not come after the last, where it is a candidate: the last stays
+  same-last : {n : ℕ} {s : Seen} → Last n s → (isCandidate (seenAt fields n) set tag ≡ true → comesBefore s (seenAt fields n) ≡ false) → Last (suc n) s
+  same-last {n} {s} p b =
+      record {
+        place = p .place;
+        below = omega (arith, p .below);
+        is = p .is;
+        candidate = p .candidate;
+        last = below-suc (p .last) b;
+      }
+
+  -- nothing, where there is no candidate; or the last of the candidates
+  data Of (n : ℕ) : Newest → Type 0 where
+    none : NoCandidate n → Of n Nothing
+    one : {s : Seen} → Last n s → Of n (Found s)
+
+  -- a candidate more
+  of-better : {n : ℕ} {found : Newest} → Of n found → isCandidate (seenAt fields n) set tag ≡ true → Of (suc n) (better found (seenAt fields n))
+  unfolding better
+  of-better (none h) e = one (first-last h e)
+  of-better {n} (one {s = s} p) e = go (comesBefore s (seenAt fields n)) refl
+    where
+      go : (t : Bool) → comesBefore s (seenAt fields n) ≡ t → Of (suc n) (if t then Found (seenAt fields n) else Found s)
+      go true q = one (next-last p e q)
+      go false q = one (same-last p (λ c. q))
+
+  -- any other scan more
+  of-same : {n : ℕ} {found : Newest} → Of n found → isCandidate (seenAt fields n) set tag ≡ false → Of (suc n) found
+  of-same (none h) e = none (below-suc h e)
+  of-same (one p) e = one (same-last p (λ c. absurd (false≢true (sym e ∙ c))))
+
+  -- and so the newest is
+  of-newest : (n : ℕ) → Of n (newest n fields set tag)
+  unfolding newest
+  of-newest zero = none (λ i l. absurd (omega arith))
+  of-newest (suc n) = go (of-newest n) (isCandidate (seenAt fields n) set tag) refl
+    where
+      go : Of n (newest n fields set tag) → (t : Bool) → isCandidate (seenAt fields n) set tag ≡ t → Of (suc n) (if t then better (newest n fields set tag) (seenAt fields n) else newest n fields set tag)
+      go o true e = of-better o e
+      go o false e = of-same o e
+
+  -- what is found is the last of the candidates
+  pub newest-found : (n : ℕ) {s : Seen} → newest n fields set tag ≡ Found s → Last n s
+  newest-found n {s} e = go (of-newest n) e
+    where
+      go : {found : Newest} → Of n found → found ≡ Found s → Last n s
+      go (none h) q = absurd (nothing-found q)
+      go (one {s = t} p) q = let r : t ≡ s = cc in rw (← r) p
+
+  -- nothing is found only where there is no candidate
+  pub newest-nothing : (n : ℕ) → newest n fields set tag ≡ Nothing → NoCandidate n
+  newest-nothing n e = go (of-newest n) e
+    where
+      go : {found : Newest} → Of n found → found ≡ Nothing → NoCandidate n
+      go (none h) q = h
+      go (one p) q = absurd (nothing-found (sym q))
+
+  -- and where there is no candidate nothing is found
+  pub nothing-newest : (n : ℕ) → NoCandidate n → newest n fields set tag ≡ Nothing
+  nothing-newest n h = go (newest n fields set tag) refl
+    where
+      go : (found : Newest) → newest n fields set tag ≡ found → found ≡ Nothing
+      go Nothing e = refl
+      go (Found s) e = let p = newest-found n e in absurd (false≢true (sym (h (p .place) (p .below)) ∙ p .candidate))
+
+  -- there is one last candidate
+  last-unique : {n : ℕ} {s t : Seen} → Last n s → Last n t → s ≡ t
+  last-unique {n} {s} {t} p q = go (eqb (p .place) (q .place)) refl
+    where
+      go : (b : Bool) → eqb (p .place) (q .place) ≡ b → s ≡ t
+      go true e = p .is ∙ ap (seenAt fields) (eqb-true (p .place) (q .place) e) ∙ sym (q .is)
+      go false e =
+          ⊎-elim
+          (λ h. absurd (false≢true (sym (p .last (q .place) (q .below) (q .candidate)) ∙ rw (p .is) h)))
+          (λ h. absurd (false≢true (sym (q .last (p .place) (p .below) (p .candidate)) ∙ rw (q .is) h)))
+          (before-total fields (p .place) (q .place) (eqb-false (p .place) (q .place) e))
+
+  -- the last of the candidates is what is found
+  pub newest-unique : (n : ℕ) {s : Seen} → Last n s → newest n fields set tag ≡ Found s
+  newest-unique n {s} p = go (newest n fields set tag) refl
+    where
+      go : (found : Newest) → newest n fields set tag ≡ found → found ≡ Found s
+      go Nothing e = absurd (false≢true (sym (newest-nothing n e (p .place) (p .below)) ∙ p .candidate))
+      go (Found t) e = ap Found (last-unique (newest-found n e) p)
+
+-- ---- scan times never fall
+
+-- in the set a scan is found, and it is not earlier than s
+pub record FoundLater (n : ℕ) (fields : List ℕ) (set : Scans) (tag : ℕ) (s : Seen) : Type 0 where
+  pub seen : Seen
+  pub found : newest n fields set tag ≡ Found seen
+  pub later : s .scan .time ≤ seen .scan .time
+
+-- a larger set never shows an earlier scan
+pub found-later : (n : ℕ) (fields : List ℕ) {a b : Scans} (tag : ℕ) {s : Seen} → a ⊆ b → newest n fields a tag ≡ Found s → FoundLater n fields b tag s
+found-later n fields {a} {b} tag {s} h e = go (newest n fields b tag) refl
+  where
+    p : Last fields a tag n s
+    p = newest-found fields a tag n e
+
+    c : isCandidate (seenAt fields (p .place)) b tag ≡ true
+    c = candidate-⊆ (seenAt fields (p .place)) tag h (p .candidate)
+
+    go : (found : Newest) → newest n fields b tag ≡ found → FoundLater n fields b tag s
+    go Nothing q = absurd (false≢true (sym (newest-nothing fields b tag n q (p .place) (p .below)) ∙ c))
+    go (Found t) q =
+        record {
+          seen = t;
+          found = q;
+          later = not-before-time s t (rw (p .is) (newest-found fields b tag n q .last (p .place) (p .below) c));
+        }
+
+-- ---- the answers
+
+-- a refusal, or another answer where there is none
+abbrev orRefused : ℕ → Shelf → Shelf
+orRefused k w = if eqb k 0 then w else refusedShelf k
+
+refused-shown : {r : Refusal} {i : ScanId} {s t : ℕ} → answer.Refused r ≡ answer.Shown i s t → ⊥
+refused-shown e = let z : _≡_ {A = ℕ} 0 1 = cc in omega arith
+
+-- a scan is shown only where there is no refusal
+shown-of : (k : ℕ) (w : Shelf) {i : ScanId} {s t : ℕ} → orRefused k w ≡ answer.Shown i s t → (k ≡ 0) × (w ≡ answer.Shown i s t)
+shown-of k w {i} {s} {t} e = go (eqb k 0) refl e
+  where
+    go : (b : Bool) → eqb k 0 ≡ b → (if b then w else refusedShelf k) ≡ answer.Shown i s t → (k ≡ 0) × (w ≡ answer.Shown i s t)
+    go true q h = (eqb-true k 0 q, h)
+    go false q h = absurd (refused-shown h)
+
+-- a question without a refusal: the tag is in range, and the set holds only scans below n
+question-zero : (n : ℕ) (set : Scans) (tag : ℕ) → questionNo n set tag ≡ 0 → (tag ≤ 2 ^ 32 - 1) × (fits set n ≡ true)
+unfolding questionNo
+question-zero n set tag e = go (ltb (2 ^ 32 - 1) tag) refl (fits set n) refl e
+  where
+    go : (p : Bool) → ltb (2 ^ 32 - 1) tag ≡ p → (q : Bool) → fits set n ≡ q → _≡_ {A = ℕ} (if p || not q then 3 else 0) 0 → (tag ≤ 2 ^ 32 - 1) × (fits set n ≡ true)
+    go true f q g h = absurd (omega arith)
+    go false f false g h = absurd (omega arith)
+    go false f true g h = (ltb-false (2 ^ 32 - 1) tag f, g)
+
+-- a scan as the answer: the tag and the set are in range, and it is the newest
+pub record Asked (n : ℕ) (fields : List ℕ) (set : Scans) (tag : ℕ) (i : ScanId) (s t : ℕ) : Type 0 where
+  pub tagged : tag ≤ 2 ^ 32 - 1
+  pub fitting : fits set n ≡ true
+  pub seen : Seen
+  pub found : newest n fields set tag ≡ Found seen
+  pub number : i ≡ seen .number
+  pub shelf : s ≡ seen .scan .shelf
+  pub time : t ≡ seen .scan .time
+
+-- what the question says by a scan
+pub ask-shown : (n : ℕ) (fields : List ℕ) (set : Scans) (tag : ℕ) {i : ScanId} {s t : ℕ} → ask n fields set tag ≡ answer.Shown i s t → Asked n fields set tag i s t
+unfolding ask shown
+ask-shown n fields set tag {i} {s} {t} e =
+    let p = shown-of (questionNo n set tag) (shown (newest n fields set tag)) e in
+    go (question-zero n set tag (p .0)) (newest n fields set tag) refl (p .1)
+  where
+    go : (tag ≤ 2 ^ 32 - 1) × (fits set n ≡ true) → (x : Newest) → newest n fields set tag ≡ x → shown x ≡ answer.Shown i s t → Asked n fields set tag i s t
+    go z Nothing q h = absurd (let z : _≡_ {A = ℕ} 0 1 = cc in omega arith)
+    go z (Found seen) q h = record { tagged = z .0; fitting = z .1; seen = seen; found = q; number = cc; shelf = cc; time = cc }
+
+-- what the question on a table says by a scan: the table is not refused either
+pub where-shown : (fields : List ℕ) (set : Scans) (tag : ℕ) {i : ScanId} {s t : ℕ} → whereIs fields set tag ≡ answer.Shown i s t
+    → (tableNo fields ≡ 0) × Asked (scansIn fields) fields set tag i s t
+unfolding whereIs
+where-shown fields set tag e =
+    let p = shown-of (tableNo fields) (ask (scansIn fields) fields set tag) e in
+    (p .0, ask-shown (scansIn fields) fields set tag (p .1))
+
+-- an answer shows a scan that is not earlier than the time t
+pub record ShownLater (w : Shelf) (t : ℕ) : Type 0 where
+  pub number : ScanId
+  pub shelf : ℕ
+  pub time : ℕ
+  pub shown : w ≡ answer.Shown number shelf time
+  pub later : t ≤ time
+
+-- a larger set that is in range shows no earlier scan
+ask-later : (n : ℕ) (fields : List ℕ) {a b : Scans} (tag : ℕ) {i : ScanId} {s t : ℕ} → a ⊆ b → fits b n ≡ true → ask n fields a tag ≡ answer.Shown i s t → ShownLater (ask n fields b tag) t
+unfolding shown
+ask-later n fields {a} {b} tag h f e =
+    let p = ask-shown n fields a tag e in
+    let q = found-later n fields tag h (p .found) in
+    record {
+      number = q .seen .number;
+      shelf = q .seen .scan .shelf;
+      time = q .seen .scan .time;
+      shown = ask-newest n fields b tag (p .tagged) f ∙ ap shown (q .found);
+      later = omega (arith, p .time, q .later);
+    }
+
+-- so it is with the question on a table that has been read
+pub where-later : (fields : List ℕ) {a b : Scans} (tag : ℕ) {i : ScanId} {s t : ℕ} → a ⊆ b → fits b (scansIn fields) ≡ true → whereIs fields a tag ≡ answer.Shown i s t
+    → ShownLater (whereIs fields b tag) t
+where-later fields {a} {b} tag h f e =
+    let z = where-shown fields a tag e .0 in
+    rw (where-asked fields b tag z) (ask-later (scansIn fields) fields tag h f (sym (where-asked fields a tag z) ∙ e))
+
+-- and with the question on the written form of a table of n scans
+pub written-later : (o : Outcome) (n : ℕ) {a b : Scans} (tag : ℕ) {i : ScanId} {s t : ℕ} → checkAnswer o ≡ table.Scans n → a ⊆ b → fits b n ≡ true → whereIsWritten o a tag ≡ answer.Shown i s t
+    → ShownLater (whereIsWritten o b tag) t
+unfolding whereIsWritten checkAnswer
+written-later (got vs next) n {a} {b} tag c h f e =
+    let z : n ≡ getD vs 0 0 = cc in
+    ask-later (getD vs 0 0) (drop 1 vs) tag h (rw (← z) f) e
+written-later (refused r) n tag c h f e = absurd (refused-shown e)
+
+-- ---- refusals
+
+module _ (P : ℕ → Type 0) where
+  -- the refusals of an answer, where those before it have P and so have its own
+  refused-of : (k : ℕ) (w : Shelf) → ((k ≡ 0 → ⊥) → P k) → ((r : Refusal) → w ≡ answer.Refused r → P (r .no)) → (r : Refusal) → orRefused k w ≡ answer.Refused r → P (r .no)
+  refused-of k w p q r e = go (eqb k 0) refl e
+    where
+      go : (b : Bool) → eqb k 0 ≡ b → (if b then w else refusedShelf k) ≡ answer.Refused r → P (r .no)
+      go true z h = q r h
+      go false z h =
+          let y : _≡_ {A = Refusal} (record { no = k }) r = cc in
+          rw (← y) (p (eqb-false k 0 z))
+
+  -- the number of an answer is 0 or that of its refusal
+  no-of : (w : Shelf) → ((r : Refusal) → w ≡ answer.Refused r → P (r .no)) → (shelfNo w ≡ 0) ⊎ P (shelfNo w)
+  no-of answer.Nowhere h = inl refl
+  no-of (answer.Shown i s t) h = inl refl
+  no-of (answer.Refused r) h = inr (h r refl)
+
+  -- the question refuses with 3
+  ask-refuses : (n : ℕ) (fields : List ℕ) (set : Scans) (tag : ℕ) → P 3 → (r : Refusal) → ask n fields set tag ≡ answer.Refused r → P (r .no)
+  unfolding ask questionNo shown
+  ask-refuses n fields set tag three =
+      refused-of (questionNo n set tag) (shown (newest n fields set tag)) (gives-one P 3 (ltb (2 ^ 32 - 1) tag || not (fits set n)) three) (go (newest n fields set tag))
+    where
+      go : (x : Newest) (r : Refusal) → shown x ≡ answer.Refused r → P (r .no)
+      go Nothing r e = absurd (let z : _≡_ {A = ℕ} 0 1 = cc in omega arith)
+      go (Found seen) r e = absurd (refused-shown (sym e))
+
+  -- a scan's tests give 3, 10 or 12
+  scan-gives : P 3 → P 10 → P 12 → All P scanTests
+  unfolding tagNo scan.shelfNo deviceNo timeNo
+  scan-gives three ten twelve =
+      and (λ v. gives-one P 3 (ltb (2 ^ 32 - 1) v) three)
+      (and (λ v. gives-one P 3 (ltb 65_535 v) three)
+      (and (λ v. gives-one P 10 (eqb v 0 || ltb 255 v) ten)
+      (and (λ v. gives-one P 12 (ltb (2 ^ 48 - 1) v) twelve) ended)))
+
+  -- the first refusal of scans
+  records-give : All P scanTests → (fields : List ℕ) (n i : ℕ) → (recordsNo scanTests n fields i ≡ 0 → ⊥) → P (recordsNo scanTests n fields i)
+  unfolding recordsNo
+  records-give a fields zero i h = absurd (h refl)
+  records-give a fields (suc n) i h =
+      let s = fieldsOf (scanAt fields i) in
+      gives-first P (rowNo scanTests s) (recordsNo scanTests n fields (suc i)) (row-gives P a s) (records-give a fields n (suc i)) h
+
+  -- the first refusal of a table
+  table-gives : P 1 → All P scanTests → (fields : List ℕ) → (tableNo fields ≡ 0 → ⊥) → P (tableNo fields)
+  unfolding tableNo
+  table-gives size a fields h = go (wholeTable fields) h
+    where
+      go : (t : Bool) → ((if t then recordsNo scanTests (scansIn fields) fields 0 else 1) ≡ 0 → ⊥) → P (if t then recordsNo scanTests (scansIn fields) fields 0 else 1)
+      go true k = records-give a fields (scansIn fields) 0 k
+      go false k = size
+
+-- what the question on a table refuses with: 1 for its size, 3 for a tag, a shelf or the set, 10 for a device, 12 for a time
+abbrev pub ShelfRefusal : ℕ → Type 0
+ShelfRefusal n = (n ≡ 1) ⊎ (n ≡ 3) ⊎ (n ≡ 10) ⊎ (n ≡ 12)
+
+module _ (fields : List ℕ) (set : Scans) (tag : ℕ) where
+  -- a question that is refused is refused so
+  pub where-refusals : (r : Refusal) → whereIs fields set tag ≡ answer.Refused r → ShelfRefusal (r .no)
+  unfolding whereIs
+  where-refusals =
+      let three = inr (inl refl) in
+      let tests = scan-gives ShelfRefusal three (inr (inr (inl refl))) (inr (inr (inr refl))) in
+      refused-of ShelfRefusal (tableNo fields) (ask (scansIn fields) fields set tag) (table-gives ShelfRefusal (inl refl) tests fields) (ask-refuses ShelfRefusal (scansIn fields) fields set tag three)
+
+  -- the number of an answer is 0 or such a refusal
+  pub where-no : (shelfNo (whereIs fields set tag) ≡ 0) ⊎ ShelfRefusal (shelfNo (whereIs fields set tag))
+  where-no = no-of ShelfRefusal (whereIs fields set tag) where-refusals
+
+module _ (bytes : List ℕ) (set : Scans) (tag : ℕ) where
+  -- a question on the written form is refused so, or with 11 or 13: with what its reader refuses
+  pub written-refusals : (r : Refusal) → whereIsWritten (readTable bytes) set tag ≡ answer.Refused r → ReadRefusal (r .no)
+  unfolding whereIsWritten
+  written-refusals r e = go (readTable bytes) refl e
+    where
+      go : (o : Outcome) → readTable bytes ≡ o → whereIsWritten o set tag ≡ answer.Refused r → ReadRefusal (r .no)
+      go (got vs next) q h = ask-refuses ReadRefusal (getD vs 0 0) (drop 1 vs) set tag (inr (inl refl)) r h
+      go (refused s) q h =
+          let p : s ≡ r = cc in
+          rw (← p) (table-refusals bytes s q)
+
+  -- the number of an answer is 0 or such a refusal
+  pub written-no : (shelfNo (whereIsWritten (readTable bytes) set tag) ≡ 0) ⊎ ReadRefusal (shelfNo (whereIsWritten (readTable bytes) set tag))
+  written-no = no-of ReadRefusal (whereIsWritten (readTable bytes) set tag) written-refusals
+
+-- ---- the two questions are one
+
+-- scans that each pass have no refusal
+records-pass : (fields : List ℕ) (n i : ℕ) → ((k : ℕ) → k < i + n → rowNo scanTests (fieldsOf (scanAt fields k)) ≡ 0) → recordsNo scanTests n fields i ≡ 0
+unfolding recordsNo
+records-pass fields zero i h = refl
+records-pass fields (suc n) i h = rw (h i (omega arith)) (records-pass fields n (suc i) (λ k l. h k (omega arith)))
+
+-- a table that was read is not refused
+read-passes : (bytes : List ℕ) {vs : List ℕ} {next : ℕ} → readTable bytes ≡ got vs next → (scansIn (drop 1 vs) ≡ getD vs 0 0) × (tableNo (drop 1 vs) ≡ 0)
+read-passes bytes {vs} e =
+    let fields = drop 1 vs in
+    let t = table-got bytes e in
+    let l = table-count bytes e in
+    let n : scansIn fields ≡ getD vs 0 0 = omega arith in
+    let s : getD vs 0 0 ≡ t .scans = ap (λ (l : List ℕ). getD l 0 0) (t .all) in
+    let p = records-pass fields (scansIn fields) 0 (λ k h. table-in-range bytes e k (omega arith)) in
+    (n, table-whole fields (omega arith) (rw (n, s) (t .ranged)) ∙ p)
+
+-- the question on the written form is the question on the table that was read
+pub written-read : (bytes : List ℕ) {vs : List ℕ} {next : ℕ} (set : Scans) (tag : ℕ) → readTable bytes ≡ got vs next → whereIsWritten (readTable bytes) set tag ≡ whereIs (drop 1 vs) set tag
+unfolding whereIsWritten
+written-read bytes {vs} set tag e =
+    let p = read-passes bytes e in
+    rw (where-asked (drop 1 vs) set tag (p .1), e, p .0)

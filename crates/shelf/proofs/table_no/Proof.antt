@@ -1,0 +1,35 @@
+-- `shelf::table_no` meets its contract: whole scans, as many as a table may have, and then each of them. Assumes nothing.
+use mathlib.Core.Path.{sym, _∙_}
+use native.Mathlib.Omega.{arith}
+use borrow.Author.Needs.{needs}
+use borrow.Author.Tests.{not-true, not-false}
+use Rattle.scan_table.specs.Table.{scansIn}
+use Rattle.scan_table.proofs.Testing.{scans-ranged}
+use Rattle.shelf.proofs.Asking.{table-uneven, table-unsized, table-whole}
+use Rattle.shelf.proofs.table_no.Statement.{statement}
+use Rattle.shelf.proofs.table_no.Tie as tie
+
+returns : tie.Need-returns
+returns c = sym (table-uneven (c .before .before .args .fields .now) (c .if1 .taken))
+
+scans-in-range-requires : tie.Need-scans-in-range-requires
+scans-in-range-requires c κs = search needs
+
+returns-2 : tie.Need-returns-2
+returns-2 c = sym (table-unsized (c .before .before .before .before .args .fields .now) (c .before .before .if1 .left) (sym (c .before .scans-in-range .ensures) ∙ not-true _ (c .if2 .taken)))
+
+cast-scans-no : tie.Need-cast-scans-no
+cast-scans-no c = omega (arith, scans-ranged (scansIn (c .before .before .before .before .args .fields .now)) (sym (c .before .scans-in-range .ensures) ∙ not-false _ (c .if2 .left)))
+
+scans-no-requires : tie.Need-scans-no-requires
+scans-no-requires c κs = search needs
+
+returns-3 : tie.Need-returns-3
+returns-3 c =
+    let f = c .before .before .before .before .before .args .fields .now in
+    c .scans-no .ensures ∙ sym (table-whole f (c .before .before .before .if1 .left) (sym (c .before .before .scans-in-range .ensures) ∙ not-false _ (c .before .if2 .left)))
+
+pub table-no-spec : {M : Type 1} → statement M
+table-no-spec =
+    tie.close
+    (tie.spec returns scans-in-range-requires returns-2 cast-scans-no scans-no-requires returns-3)

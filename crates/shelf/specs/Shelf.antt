@@ -1,0 +1,85 @@
+-- The shelf question of document 01, "Clock and shelf".
+use mathlib.Core.Bool.{Bool, true, false, not, _&&_, _||_}
+use mathlib.Core.List.{List}
+use Prim.Native.Nat.{ℕ, zero, suc, _-_, _^_}
+use lib.Dec.{eqb, ltb}
+use lib.ListN.{drop, getD}
+use Rattle.choice.specs.Choice.{if_then_else_}
+use Rattle.sets.specs.Scans.{holds, fits}
+use Rattle.sets.specs.declared.scans.Scans.{Scans}
+use Rattle.numbers.specs.declared.Refusal.{Refusal}
+use Rattle.forms.specs.Forms.{Outcome, got, refused}
+use Rattle.scan_table.specs.Table.{scanTests, scanAt, scansIn, wholeTable, recordsNo}
+use Rattle.shelf.specs.declared.Seen.{Seen}
+use Rattle.shelf.specs.declared.Newest.{Newest}
+use Rattle.shelf.specs.declared.Newest.the-variants.{Nothing, Found}
+use Rattle.shelf.specs.declared.Shelf.{Shelf}
+use Rattle.shelf.specs.declared.Shelf.the-variants as shelf
+
+-- scan i of a table
+abbrev pub seenAt : List ℕ → ℕ → Seen
+seenAt fields i = record { number = record { 0 = i }; scan = scanAt fields i }
+
+-- the order: by time, and on equal times by scan number
+unfoldable pub comesBefore : Seen → Seen → Bool
+comesBefore a b =
+    ltb (a .scan .time) (b .scan .time)
+    || eqb (a .scan .time) (b .scan .time) && ltb (a .number .0) (b .number .0)
+
+-- a scan of the set that has the tag
+unfoldable pub isCandidate : Seen → Scans → ℕ → Bool
+isCandidate seen set tag = eqb (seen .scan .tag) tag && holds set (seen .number .0)
+
+-- the later of what was found and one scan more
+unfoldable pub better : Newest → Seen → Newest
+better Nothing seen = Found seen
+better (Found shown) seen = if comesBefore shown seen then Found seen else Found shown
+
+-- the last in the order, of the candidates among the first n scans
+unfoldable pub newest : ℕ → List ℕ → Scans → ℕ → Newest
+newest zero fields set tag = Nothing
+newest (suc n) fields set tag =
+    if isCandidate (seenAt fields n) set tag
+    then better (newest n fields set tag) (seenAt fields n)
+    else newest n fields set tag
+
+-- "none", or scan number, shelf and time
+unfoldable pub shown : Newest → Shelf
+shown Nothing = shelf.Nowhere
+shown (Found seen) = shelf.Shown (seen .number) (seen .scan .shelf) (seen .scan .time)
+
+abbrev pub refusedShelf : ℕ → Shelf
+refusedShelf n = shelf.Refused (record { no = n })
+
+-- after the table: a tag above 2 ^ 32 - 1, or a set holding a scan not below n, gives 3
+unfoldable pub questionNo : ℕ → Scans → ℕ → ℕ
+questionNo n set tag = if ltb (2 ^ 32 - 1) tag || not (fits set n) then 3 else 0
+
+-- the question on a table of n scans
+unfoldable pub ask : ℕ → List ℕ → Scans → ℕ → Shelf
+ask n fields set tag =
+    if eqb (questionNo n set tag) 0
+    then shown (newest n fields set tag)
+    else refusedShelf (questionNo n set tag)
+
+-- tested first is the table, in its reader's order
+unfoldable pub tableNo : List ℕ → ℕ
+tableNo fields = if wholeTable fields then recordsNo scanTests (scansIn fields) fields 0 else 1
+
+-- the question on a table that has been read
+unfoldable pub whereIs : List ℕ → Scans → ℕ → Shelf
+whereIs fields set tag =
+    if eqb (tableNo fields) 0
+    then ask (scansIn fields) fields set tag
+    else refusedShelf (tableNo fields)
+
+-- the question on the written form, by what reading it gave
+unfoldable pub whereIsWritten : Outcome → Scans → ℕ → Shelf
+whereIsWritten (got vs next) set tag = ask (getD vs 0 0) (drop 1 vs) set tag
+whereIsWritten (refused r) set tag = shelf.Refused r
+
+-- document 01's number of an answer: 0, or the refusal's
+abbrev pub shelfNo : Shelf → ℕ
+shelfNo shelf.Nowhere = 0
+shelfNo (shelf.Shown i s t) = 0
+shelfNo (shelf.Refused r) = r .no

@@ -1,0 +1,172 @@
+// The shelf question: where a crate was seen last, by the scans of its tag in a set.
+ghost use mathlib.Core.Path.{_≡_};
+ghost use Rattle.scan_table.specs.Table.{scanTests, recordsNo, readTable};
+ghost use Rattle.shelf.specs.Shelf.{comesBefore, isCandidate, better, newest, ask, tableNo, whereIs, whereIsWritten};
+use numbers::Refusal;
+use scan_table::Scan;
+use scan_table::TableRead;
+use sets::ScanId;
+use sets::scans::MOST_SCANS;
+use sets::scans::Scans;
+
+// Room for the numbers of the greatest table.
+const MOST_NUMBERS: usize = MOST_SCANS as usize * 4;
+
+// A scan of a table and its number.
+pub struct Seen {
+    pub number: ScanId,
+    pub scan: Scan,
+}
+
+// The scan that is shown so far, if any.
+pub enum Newest {
+    Nothing,
+    Found(Seen),
+}
+
+// The answer: no scan of the tag in the set; the scan to show; or a refusal.
+pub enum Shelf {
+    Nowhere,
+    Shown { scan: ScanId, shelf: u64, time: u64 },
+    Refused(Refusal),
+}
+
+// The order of scans: by time, and on equal times by scan number.
+pub fn comes_before(a: Seen, b: Seen) -> bool
+    ensures { λ r. ⌜ r ≡ comesBefore a b ⌝ }
+{
+    let x = a.scan;
+    let y = b.scan;
+    if x.time < y.time {
+        return true;
+    }
+    if x.time == y.time {
+        let i = a.number;
+        let j = b.number;
+        return i.0 < j.0;
+    }
+    false
+}
+
+// Whether a scan of a table is of the set and has the tag.
+fn is_candidate(seen: Seen, set: Scans, tag: u64) -> bool
+    ensures { λ r. ⌜ r ≡ isCandidate seen set tag ⌝ }
+{
+    let scan = seen.scan;
+    if scan.tag == tag {
+        return set.holds(seen.number);
+    }
+    false
+}
+
+// One more scan: it is shown where nothing was, or where it comes after what was.
+fn better_of(found: Newest, seen: Seen) -> Newest
+    ensures { λ r. ⌜ r ≡ better found seen ⌝ }
+{
+    match found {
+        Newest::Nothing => Newest::Found(seen),
+        Newest::Found(shown) => {
+            if comes_before(shown, seen) {
+                Newest::Found(seen)
+            } else {
+                Newest::Found(shown)
+            }
+        }
+    }
+}
+
+// The newest of the first scans of a table, of those in the set with the tag.
+fn newest_of(fields: &[u64], scans: u16, set: Scans, tag: u64) -> Newest
+    ensures { λ r. ⌜ r ≡ newest scans (now (fields .entry)) set tag ⌝ }
+{
+    let mut found = Newest::Nothing;
+    let mut i: u16 = 0;
+    while i < scans {
+        let number = ScanId(i);
+        let scan = scan_table::scan_at(fields, number);
+        let seen = Seen { number, scan };
+        if is_candidate(seen, set, tag) {
+            found = better_of(found, seen);
+        }
+        i += 1;
+    }
+    found
+}
+
+// The question on a table of so many scans that is in range.
+fn ask_of(fields: &[u64], scans: u16, set: Scans, tag: u64) -> Shelf
+    ensures { λ r. ⌜ r ≡ ask scans (now (fields .entry)) set tag ⌝ }
+{
+    if 4_294_967_295 < tag {
+        return Shelf::Refused(Refusal { no: 3 });
+    }
+    if !set.fits(scans as u32) {
+        return Shelf::Refused(Refusal { no: 3 });
+    }
+    let found = newest_of(fields, scans, set, tag);
+    match found {
+        Newest::Nothing => Shelf::Nowhere,
+        Newest::Found(seen) => {
+            let number = seen.number;
+            let scan = seen.scan;
+            Shelf::Shown {
+                scan: number,
+                shelf: scan.shelf,
+                time: scan.time,
+            }
+        }
+    }
+}
+
+// The first refusal of so many scans of a table.
+fn scans_no(fields: &[u64], scans: u16) -> u8
+    ensures { λ r. ⌜ r ≡ recordsNo scanTests scans (now (fields .entry)) 0 ⌝ }
+{
+    let mut i: u16 = 0;
+    while i < scans {
+        let scan = scan_table::scan_at(fields, ScanId(i));
+        let no = scan.no();
+        if no != 0 {
+            return no;
+        }
+        i += 1;
+    }
+    0
+}
+
+// The first refusal of a table's numbers.
+fn table_no(fields: &[u64]) -> u8
+    ensures { λ r. ⌜ r ≡ tableNo (now (fields .entry)) ⌝ }
+{
+    if fields.len() % 4 != 0 {
+        return 1;
+    }
+    let scans = fields.len() / 4;
+    if !sizes::scans_in_range(scans as u64) {
+        return 1;
+    }
+    scans_no(fields, scans as u16)
+}
+
+// Where the crate of a tag is, by a set of scans of a table that has been read.
+pub fn where_is(fields: &[u64], set: Scans, tag: u64) -> Shelf
+    ensures { λ r. ⌜ r ≡ whereIs (now (fields .entry)) set tag ⌝ }
+{
+    let no = table_no(fields);
+    if no != 0 {
+        return Shelf::Refused(Refusal { no });
+    }
+    ask_of(fields, (fields.len() / 4) as u16, set, tag)
+}
+
+// The same, of a table in its written form.
+pub fn where_is_written(bytes: &[u8], set: Scans, tag: u64) -> Shelf
+    ensures { λ r. ⌜ r ≡ whereIsWritten (readTable (now (bytes .entry))) set tag ⌝ }
+{
+    let mut room = [0u64; MOST_NUMBERS];
+    let answer = scan_table::read_table(&mut room, bytes);
+    match answer {
+        TableRead::Scans(scans) => ask_of(&room, scans as u16, set, tag),
+        TableRead::Refused(refusal) => Shelf::Refused(refusal),
+    }
+}

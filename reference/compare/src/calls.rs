@@ -236,12 +236,7 @@ pub fn read_schedule(room: &mut [u64], bytes: &[u8], header: &mut [u16; 6]) -> u
 
 /// Writes the schedule of these numbers, three for each event. The sizes are
 /// P, A, L, M, S.
-pub fn write_schedule(
-    buffer: &mut [u8],
-    fields: &[u64],
-    sizes: &[u16; 5],
-    next: &mut usize,
-) -> u8 {
+pub fn write_schedule(buffer: &mut [u8], fields: &[u64], sizes: &[u16; 5], next: &mut usize) -> u8 {
     // SAFETY: the call writes `length` bytes from the buffer's pointer at most,
     // and the cell, and reads `fields_length` numbers and five sizes at most;
     // all four are borrowed for the call.

@@ -1,0 +1,20 @@
+-- What the proofs of several functions cite, what holds of every run, and document 01's example run.
+pub mod Enabled
+pub mod Places
+pub mod Everywhere
+pub mod Cases
+pub mod Lists
+pub mod RuleLaws
+pub mod Steps
+pub mod States
+pub mod Later
+pub mod Invariant
+pub mod Kept
+pub mod Moments
+pub mod Safety
+pub mod RuleRanges
+pub mod InRange
+pub mod Refusals
+pub mod FreeSlots
+pub mod Computing
+pub mod Examples

@@ -1,0 +1,49 @@
+use mathlib.Core.Path.{sym, _∙_}
+use native.Mathlib.Omega.{arith}
+use borrow.Author.Needs.{needs}
+use Rattle.model.specs.Rules.{mayRefine, refineNo, afterRefine, refining}
+use Rattle.model.proofs.Enabled.{below-greatest, is-zero, not-zero}
+use Rattle.model.proofs.Proposer.refine.Statement.{statement}
+use Rattle.model.proofs.Proposer.refine.Tie as tie
+
+refine-no-requires : tie.Need-refine-no-requires
+refine-no-requires c κs = search needs
+
+returns : tie.Need-returns
+unfolding afterRefine
+returns c = rw (not-zero (c .before .refine-no .ensures) (c .if1 .taken))
+
+union-requires : tie.Need-union-requires
+union-requires c κs = search needs
+
+empty-requires : tie.Need-empty-requires
+empty-requires c κs = search needs
+
+add-self : tie.Need-add-self
+unfolding refineNo
+add-self c =
+    let p = c .before .before .before .before .before .args .self in
+    omega (arith, below-greatest (p .alive) (mayRefine (c .before .before .before .before .before .args .acceptors) p) (p .number) (sym (c .before .before .before .before .refine-no .ensures) ∙ c .before .before .before .if1 .left))
+
+none-requires : tie.Need-none-requires
+none-requires c κs = search needs
+
+none-requires-2 : tie.Need-none-requires-2
+none-requires-2 c κs = search needs
+
+returns-2 : tie.Need-returns-2
+unfolding afterRefine refining
+returns-2 c = rw (is-zero (c .before .before .before .before .before .before .refine-no .ensures) (c .before .before .before .before .before .if1 .left)) (simp (c .none2 .ensures, c .before .none .ensures, c .before .before .before .empty .ensures, c .before .before .before .before .union .ensures))
+
+pub refine-spec : {M : Type 1} → statement M
+refine-spec =
+    tie.close
+    (tie.spec
+    refine-no-requires
+    returns
+    union-requires
+    empty-requires
+    add-self
+    none-requires
+    none-requires-2
+    returns-2)

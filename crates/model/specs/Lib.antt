@@ -1,0 +1,8 @@
+pub mod Records
+pub mod Tests
+pub mod Rules
+pub mod Table
+pub mod Events
+pub mod Ranges
+pub mod Step
+pub mod Safety

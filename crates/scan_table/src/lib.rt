@@ -97,8 +97,8 @@ fn number_at(fields: &[u64], place: usize) -> u64
     0
 }
 
-// A scan of a table's numbers; past their end its numbers are 0.
-pub fn scan_at(fields: &[u64], scan: ScanId) -> Scan
+// A scan of a table's numbers, number by number, as it may be past their end.
+fn scan_past(fields: &[u64], scan: ScanId) -> Scan
     ensures { λ r. ⌜ r ≡ scanAt (now (fields .entry)) (scan .0) ⌝ }
 {
     let first = scan.0 as usize * 4;
@@ -112,6 +112,22 @@ pub fn scan_at(fields: &[u64], scan: ScanId) -> Scan
         device,
         time,
     }
+}
+
+// A scan of a table's numbers; past their end its numbers are 0.
+pub fn scan_at(fields: &[u64], scan: ScanId) -> Scan
+    ensures { λ r. ⌜ r ≡ scanAt (now (fields .entry)) (scan .0) ⌝ }
+{
+    let first = scan.0 as usize * 4;
+    if first + 3 < fields.len() {
+        return Scan {
+            tag: fields[first],
+            shelf: fields[first + 1],
+            device: fields[first + 2],
+            time: fields[first + 3],
+        };
+    }
+    scan_past(fields, scan)
 }
 
 // ---- reading

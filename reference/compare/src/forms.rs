@@ -7,6 +7,8 @@ use reference::numbers;
 use reference::refusal::Refusal;
 use reference::rng::Rng;
 
+use crate::suite::Comparisons;
+
 pub mod damage;
 pub mod left;
 pub mod lent;
@@ -140,6 +142,18 @@ pub fn answer<T>(given: Result<T, Refusal>, cell: &mut T) -> u8 {
         }
         Err(refusal) => refusal,
     }
+}
+
+/// Writes the form and reads its file. Both programs accept it where the answer
+/// is 0, and otherwise refuse with it.
+pub fn compare_answer<F: Form>(
+    comparisons: &mut Comparisons,
+    rng: &mut Rng,
+    form: &F,
+    answer: Refusal,
+) -> Result<(), String> {
+    writing::compare_answer(comparisons, rng, form, answer)?;
+    reading::compare_answer(comparisons, rng, form, &form.file(), answer)
 }
 
 /// A number of the range, often at one of its ends or at the edge of a group.

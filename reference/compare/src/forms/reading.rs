@@ -118,6 +118,22 @@ pub fn compare_accepted<F: Form>(
     compare_stated::<F>(comparisons, file, room, &stated)
 }
 
+/// Both programs read the form from its file where the answer is 0, and
+/// otherwise refuse with it.
+pub fn compare_answer<F: Form>(
+    comparisons: &mut Comparisons,
+    rng: &mut Rng,
+    form: &F,
+    file: &[u8],
+    answer: Refusal,
+) -> Result<(), String> {
+    let room = random_room(rng, form.fields().len(), file);
+    match answer {
+        0 => compare_accepted(comparisons, form, file, &room),
+        _ => compare_refused::<F>(comparisons, file, &room, answer),
+    }
+}
+
 /// A room as long as the fields, one number shorter, or as long as the bytes,
 /// which no form's fields outnumber.
 pub fn random_room(rng: &mut Rng, fields: usize, bytes: &[u8]) -> Lent<u64> {

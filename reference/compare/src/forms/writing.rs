@@ -61,7 +61,7 @@ fn compare_stated<F: Form>(
 }
 
 /// Both programs refuse to write the form with this number.
-pub fn compare_refused<F: Form>(
+fn compare_refused<F: Form>(
     comparisons: &mut Comparisons,
     form: &F,
     buffer: &Lent<u8>,
@@ -77,7 +77,7 @@ pub fn compare_refused<F: Form>(
 
 /// Both programs write the form's file, or refuse 8 where the buffer is too
 /// short.
-pub fn compare_accepted<F: Form>(
+fn compare_accepted<F: Form>(
     comparisons: &mut Comparisons,
     form: &F,
     file: &[u8],
@@ -92,6 +92,22 @@ pub fn compare_accepted<F: Form>(
         lent: buffer.beginning_with(file),
     };
     compare_stated(comparisons, form, buffer, &stated)
+}
+
+/// Both programs write the form where the answer is 0, and otherwise refuse
+/// with it.
+pub fn compare_answer<F: Form>(
+    comparisons: &mut Comparisons,
+    rng: &mut Rng,
+    form: &F,
+    answer: Refusal,
+) -> Result<(), String> {
+    let file = form.file();
+    let buffer = random_buffer(rng, file.len());
+    match answer {
+        0 => compare_accepted(comparisons, form, &file, &buffer),
+        _ => compare_refused(comparisons, form, &buffer, answer),
+    }
 }
 
 /// Writes a form into buffers of lengths about its file's, and reads the file
@@ -114,7 +130,7 @@ pub fn compare_both_ways<F: Form>(
 }
 
 /// A buffer as long as the text, empty, or longer.
-pub fn random_buffer(rng: &mut Rng, text: usize) -> Lent<u8> {
+fn random_buffer(rng: &mut Rng, text: usize) -> Lent<u8> {
     let length = match rng.below(3) {
         0 => text,
         1 => 0,

@@ -5,8 +5,7 @@ use reference::rng::Rng;
 
 use super::{Schedule, EVENT};
 use crate::forms::reading::{self, random_room};
-use crate::forms::writing::{self, random_buffer};
-use crate::forms::{written, Form};
+use crate::forms::{self, written};
 use crate::suite::{Comparisons, Outcome};
 
 /// The least and the greatest of each size: P, A, L, M, S.
@@ -41,7 +40,8 @@ const ORDER: [(&[u64], Refusal); 21] = [
 /// How many pairs of sizes outside their ranges are compared.
 const TWO_SIZES: u64 = 5_000;
 
-/// How often the tests at the edges are repeated with other random numbers.
+/// How often a test is repeated; sizes are tested with as many counts of
+/// events.
 const REPEATS: usize = 20;
 
 /// The first number that is wrong decides, in any room.
@@ -57,23 +57,26 @@ pub fn order(rng: &mut Rng) -> Outcome {
     comparisons.made()
 }
 
-/// Each size at its limits and past them, with no event and with some.
+/// Each size at its limits and past them.
 pub fn size_limits(rng: &mut Rng) -> Outcome {
     let mut comparisons = Comparisons::new();
-    for (place, (least, greatest)) in SIZE_RANGES.iter().enumerate() {
-        for size in sizes_about(*least, *greatest) {
-            for events in [0, 1, 3] {
+    for (place, (least, greatest)) in SIZE_RANGES.into_iter().enumerate() {
+        for size in sizes_about(least, greatest) {
+            let answer = match (least..=greatest).contains(&size) {
+                true => 0,
+                false => OUTSIDE_RANGE,
+            };
+            for events in 0..REPEATS {
                 let mut schedule = Schedule::of_events(rng, events);
                 schedule.sizes[place] = size;
-                let within = (*least..=*greatest).contains(&size);
-                compare_sizes(&mut comparisons, rng, &schedule, within)?;
+                forms::compare_answer(&mut comparisons, rng, &schedule, answer)?;
             }
         }
     }
     comparisons.made()
 }
 
-/// The ends of a range, what is next to them, and the ends of all sizes.
+/// Sizes at the ends of a range and next to them, and others.
 fn sizes_about(least: u16, greatest: u16) -> [u16; 12] {
     [
         0,
@@ -89,36 +92,6 @@ fn sizes_about(least: u16, greatest: u16) -> [u16; 12] {
         32_768,
         65_535,
     ]
-}
-
-/// Both programs accept the schedule where its sizes are within their ranges,
-/// and otherwise refuse it 1 in memory of several lengths.
-fn compare_sizes(
-    comparisons: &mut Comparisons,
-    rng: &mut Rng,
-    schedule: &Schedule,
-    within: bool,
-) -> Result<(), String> {
-    for _ in 0..REPEATS {
-        match within {
-            true => writing::compare_both_ways(comparisons, rng, schedule)?,
-            false => compare_refused(comparisons, rng, schedule)?,
-        }
-    }
-    Ok(())
-}
-
-/// Both programs refuse 1 to write the schedule and to read its file.
-fn compare_refused(
-    comparisons: &mut Comparisons,
-    rng: &mut Rng,
-    schedule: &Schedule,
-) -> Result<(), String> {
-    let file = schedule.file();
-    let buffer = random_buffer(rng, file.len());
-    writing::compare_refused(comparisons, schedule, &buffer, OUTSIDE_RANGE)?;
-    let room = random_room(rng, schedule.fields.len(), &file);
-    reading::compare_refused::<Schedule>(comparisons, &file, &room, OUTSIDE_RANGE)
 }
 
 /// Two sizes about their limits, one of them past its own.
@@ -137,7 +110,7 @@ pub fn two_sizes(rng: &mut Rng) -> Outcome {
             true => least - 1,
             false => greatest + 1,
         };
-        compare_refused(&mut comparisons, rng, &schedule)?;
+        forms::compare_answer(&mut comparisons, rng, &schedule, OUTSIDE_RANGE)?;
     }
     comparisons.made()
 }

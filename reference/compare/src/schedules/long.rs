@@ -9,8 +9,7 @@ use reference::schedule::LONGEST;
 use super::{Schedule, EVENT};
 use crate::forms::lent::Lent;
 use crate::forms::reading::{self, random_room};
-use crate::forms::writing::{self, random_buffer};
-use crate::forms::{damage, Form};
+use crate::forms::{self, damage, writing, Form};
 use crate::suite::{Comparisons, Outcome};
 
 /// The greatest count of events, and of the coding's numbers.
@@ -19,6 +18,9 @@ const MOST_OF_CODING: usize = 65_535;
 
 /// Counts of events about both.
 const EVENT_COUNTS: [usize; 7] = [4_095, 4_096, 4_097, 8_192, 65_535, 65_536, 65_537];
+
+/// How often what the writer is given is made of other random numbers.
+const REPEATS: usize = 3;
 
 /// How many random schedules of each length are compared, and how many
 /// damages of each.
@@ -33,61 +35,76 @@ fn longest() -> Schedule {
     }
 }
 
-/// Numbers of many events, given to the writer: with sizes outside their
-/// ranges, a part of an event at the end, and a number too large.
-pub fn event_counts(rng: &mut Rng) -> Outcome {
-    let mut comparisons = Comparisons::new();
-    for events in EVENT_COUNTS {
+/// What the writer is given: a count of whole events and how many numbers of a
+/// part of one, with sizes and numbers within their ranges or not.
+struct Given {
+    events: usize,
+    part: usize,
+    sizes_within: bool,
+    numbers_within: bool,
+}
+
+impl Given {
+    /// Everything that so many events are given with.
+    fn all_of(events: usize) -> Vec<Given> {
+        let mut all = Vec::new();
         for part in 0..EVENT {
             for sizes_within in [true, false] {
                 for numbers_within in [true, false] {
-                    let mut schedule = Schedule::of_events(rng, events);
-                    schedule.fields.resize(events * EVENT + part, 0);
-                    if !sizes_within {
-                        schedule.sizes[0] = 0;
-                    }
-                    if !numbers_within {
-                        let place = rng.below(schedule.fields.len() as u64) as usize;
-                        schedule.fields[place] = 65_536;
-                    }
-                    let answer = stated_answer(events, part, sizes_within, numbers_within);
-                    compare_written(&mut comparisons, rng, &schedule, answer)?;
+                    all.push(Given {
+                        events,
+                        part,
+                        sizes_within,
+                        numbers_within,
+                    });
                 }
+            }
+        }
+        all
+    }
+
+    fn schedule(&self, rng: &mut Rng) -> Schedule {
+        let mut schedule = Schedule::of_events(rng, self.events);
+        schedule.fields.resize(self.events * EVENT + self.part, 0);
+        if !self.sizes_within {
+            schedule.sizes[0] = 0;
+        }
+        if !self.numbers_within {
+            let place = rng.below(schedule.fields.len() as u64) as usize;
+            schedule.fields[place] = 65_536;
+        }
+        schedule
+    }
+
+    /// The writer's answer: E too large for the coding, then a part of an
+    /// event, sizes, E, numbers.
+    fn answer(&self) -> Refusal {
+        if self.events > MOST_OF_CODING {
+            BAD_NUMBER
+        } else if self.part != 0 || !self.sizes_within {
+            OUTSIDE_RANGE
+        } else if self.events > MOST_EVENTS {
+            OUTSIDE_SIZES
+        } else if !self.numbers_within {
+            BAD_NUMBER
+        } else {
+            0
+        }
+    }
+}
+
+/// Numbers of many events, given to the writer.
+pub fn event_counts(rng: &mut Rng) -> Outcome {
+    let mut comparisons = Comparisons::new();
+    for events in EVENT_COUNTS {
+        for given in Given::all_of(events) {
+            for _ in 0..REPEATS {
+                let schedule = given.schedule(rng);
+                writing::compare_answer(&mut comparisons, rng, &schedule, given.answer())?;
             }
         }
     }
     comparisons.made()
-}
-
-/// What the writer answers, its buffer long enough: E too large for the coding,
-/// not whole events, sizes, E, numbers.
-fn stated_answer(events: usize, part: usize, sizes_within: bool, numbers_within: bool) -> Refusal {
-    if events > MOST_OF_CODING {
-        BAD_NUMBER
-    } else if part != 0 || !sizes_within {
-        OUTSIDE_RANGE
-    } else if events > MOST_EVENTS {
-        OUTSIDE_SIZES
-    } else if !numbers_within {
-        BAD_NUMBER
-    } else {
-        0
-    }
-}
-
-/// Writes the schedule; an answer of 0 means that both programs accept it.
-fn compare_written(
-    comparisons: &mut Comparisons,
-    rng: &mut Rng,
-    schedule: &Schedule,
-    answer: Refusal,
-) -> Result<(), String> {
-    let file = schedule.file();
-    let buffer = random_buffer(rng, file.len());
-    match answer {
-        0 => writing::compare_accepted(comparisons, schedule, &file, &buffer),
-        _ => writing::compare_refused(comparisons, schedule, &buffer, answer),
-    }
 }
 
 /// Random schedules of 4,095 and 4,096 events are written and read back, and
@@ -101,10 +118,7 @@ pub fn long_schedules(rng: &mut Rng) -> Outcome {
             compare_damaged(&mut comparisons, rng, &schedule)?;
         }
         let schedule = Schedule::of_events(rng, MOST_EVENTS + 1);
-        let file = schedule.file();
-        let room = random_room(rng, schedule.fields.len(), &file);
-        reading::compare_refused::<Schedule>(&mut comparisons, &file, &room, OUTSIDE_SIZES)?;
-        compare_written(&mut comparisons, rng, &schedule, OUTSIDE_SIZES)?;
+        forms::compare_answer(&mut comparisons, rng, &schedule, OUTSIDE_SIZES)?;
     }
     comparisons.made()
 }

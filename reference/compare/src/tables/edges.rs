@@ -5,8 +5,7 @@ use reference::rng::Rng;
 
 use super::{Table, SCAN};
 use crate::forms::reading::{self, random_room};
-use crate::forms::writing::{self, random_buffer};
-use crate::forms::{written, Form};
+use crate::forms::{self, writing, written};
 use crate::suite::{Comparisons, Outcome};
 
 /// The fields of a scan, by their places.
@@ -102,69 +101,33 @@ pub fn field_limits(rng: &mut Rng) -> Outcome {
     for (field, value, answer) in FIELD_LIMITS {
         for scans in [1, 5, 64] {
             for scan in [0, scans / 2, scans - 1] {
-                let mut table = Table::of_scans(rng, scans as u64);
-                table.fields[scan * SCAN + field] = value;
-                compare_table(&mut comparisons, rng, &table, answer)?;
+                for _ in 0..REPEATS {
+                    let mut table = Table::of_scans(rng, scans as u64);
+                    table.fields[scan * SCAN + field] = value;
+                    forms::compare_answer(&mut comparisons, rng, &table, answer)?;
+                }
             }
         }
     }
     comparisons.made()
 }
 
-/// Writes the table and reads its file, into memory of several lengths. An
-/// answer of 0 means that both accept it.
-fn compare_table(
-    comparisons: &mut Comparisons,
-    rng: &mut Rng,
-    table: &Table,
-    answer: Refusal,
-) -> Result<(), String> {
-    for _ in 0..REPEATS {
-        if answer == 0 {
-            writing::compare_both_ways(comparisons, rng, table)?;
-            continue;
-        }
-        let file = table.file();
-        let buffer = random_buffer(rng, file.len());
-        writing::compare_refused(comparisons, table, &buffer, answer)?;
-        let room = random_room(rng, table.fields.len(), &file);
-        reading::compare_refused::<Table>(comparisons, &file, &room, answer)?;
-    }
-    Ok(())
-}
-
 /// Numbers of every count: 1 but for one to 64 whole scans.
 pub fn lengths(rng: &mut Rng) -> Outcome {
     let mut comparisons = Comparisons::new();
     for length in 0..=GREATEST_LENGTH {
-        let mut table = Table::of_scans(rng, 66);
-        table.fields.truncate(length);
         let whole = length % SCAN == 0;
         let answer = match length / SCAN {
             1..=64 if whole => 0,
             _ => OUTSIDE_RANGE,
         };
-        compare_written(&mut comparisons, rng, &table, answer)?;
-    }
-    comparisons.made()
-}
-
-/// Writes the table into buffers of several lengths.
-fn compare_written(
-    comparisons: &mut Comparisons,
-    rng: &mut Rng,
-    table: &Table,
-    answer: Refusal,
-) -> Result<(), String> {
-    let file = table.file();
-    for _ in 0..REPEATS {
-        let buffer = random_buffer(rng, file.len());
-        match answer {
-            0 => writing::compare_accepted(comparisons, table, &file, &buffer)?,
-            _ => writing::compare_refused(comparisons, table, &buffer, answer)?,
+        for _ in 0..REPEATS {
+            let mut table = Table::of_scans(rng, 66);
+            table.fields.truncate(length);
+            writing::compare_answer(&mut comparisons, rng, &table, answer)?;
         }
     }
-    Ok(())
+    comparisons.made()
 }
 
 /// S at its limits and past them.
@@ -175,13 +138,7 @@ pub fn scan_counts(rng: &mut Rng) -> Outcome {
             let table = Table::of_scans(rng, scans.min(65));
             let mut file = written(&[scans]);
             file.extend(written(&table.fields));
-            let room = random_room(rng, table.fields.len(), &file);
-            match answer {
-                0 => reading::compare_accepted(&mut comparisons, &table, &file, &room)?,
-                _ => {
-                    reading::compare_refused::<Table>(&mut comparisons, &file, &room, answer)?;
-                }
-            }
+            reading::compare_answer(&mut comparisons, rng, &table, &file, answer)?;
         }
     }
     comparisons.made()

@@ -69,10 +69,18 @@ impl Scan {
         ensures { λ r. ⌜ r ≡ rowNo scanTests (fieldsOf self) ⌝ }
     {
         let tag = tag_no(self.tag);
+        if tag != 0 {
+            return tag;
+        }
         let shelf = shelf_no(self.shelf);
+        if shelf != 0 {
+            return shelf;
+        }
         let device = device_no(self.device);
-        let time = time_no(self.time);
-        first_no(tag, first_no(shelf, first_no(device, time)))
+        if device != 0 {
+            return device;
+        }
+        time_no(self.time)
     }
 
     // The same, tested as the reader would: a number too large for the coding gives 12.
@@ -95,6 +103,13 @@ fn number_at(fields: &[u64], place: usize) -> u64
         return fields[place];
     }
     0
+}
+
+// The tag of a scan of a table's numbers, 0 past their end.
+pub fn tag_at(fields: &[u64], scan: ScanId) -> u64
+    ensures { λ r. ⌜ r ≡ scanAt (now (fields .entry)) (scan .0) .tag ⌝ }
+{
+    number_at(fields, scan.0 as usize * 4)
 }
 
 // A scan of a table's numbers, number by number, as it may be past their end.

@@ -29,14 +29,18 @@ use Rattle.shelf.specs.Shelf.{seenAt, isCandidate, better, newest, shown
 
 -- ---- one scan more
 
--- a candidate is compared with what was found; any other scan is passed over
-pub newest-one : (fields : List ℕ) (set : Scans) (tag i : ℕ) {found : Newest}
-    → ((isCandidate (seenAt fields i) set tag ≡ true) × (found ≡ better (newest i fields set tag) (seenAt fields i)))
-    ⊎ ((isCandidate (seenAt fields i) set tag ≡ false) × (found ≡ newest i fields set tag))
+-- what is found with one scan more, where that scan was considered
+pub newest-next : (fields : List ℕ) (set : Scans) (tag i : ℕ) {found : Newest}
+    → found ≡ (if isCandidate (seenAt fields i) set tag then better (newest i fields set tag) (seenAt fields i) else newest i fields set tag)
     → found ≡ newest (i + 1) fields set tag
 unfolding newest
-newest-one fields set tag i (inl (c, e)) = rw (add-one i, c) e
-newest-one fields set tag i (inr (c, e)) = rw (add-one i, c) e
+newest-next fields set tag i e = rw (add-one i) e
+
+-- a scan of another tag is passed over
+pub newest-other : (fields : List ℕ) (set : Scans) (tag i : ℕ) {found : Newest} → found ≡ newest i fields set tag → (scanAt fields i .tag ≡ tag → ⊥)
+    → found ≡ newest (i + 1) fields set tag
+unfolding newest isCandidate
+newest-other fields set tag i e h = rw (add-one i, ne-eqb (scanAt fields i .tag) tag h) e
 
 -- two tables agree on their first n scans
 abbrev pub Agree : ℕ → List ℕ → List ℕ → Type 0

@@ -1,7 +1,8 @@
 // The shelf question: where a crate was seen last, by the scans of its tag in a set.
 ghost use mathlib.Core.Path.{_≡_};
+ghost use Rattle.choice.specs.Choice.{if_then_else_};
 ghost use Rattle.scan_table.specs.Table.{scanTests, recordsNo, readTable};
-ghost use Rattle.shelf.specs.Shelf.{comesBefore, isCandidate, better, newest, ask, tableNo, whereIs, whereIsWritten};
+ghost use Rattle.shelf.specs.Shelf.{comesBefore, seenAt, isCandidate, better, newest, ask, tableNo, whereIs, whereIsWritten};
 use numbers::Refusal;
 use scan_table::Scan;
 use scan_table::TableRead;
@@ -48,17 +49,6 @@ pub fn comes_before(a: Seen, b: Seen) -> bool
     false
 }
 
-// Whether a scan of a table is of the set and has the tag.
-fn is_candidate(seen: Seen, set: Scans, tag: u64) -> bool
-    ensures { λ r. ⌜ r ≡ isCandidate seen set tag ⌝ }
-{
-    let scan = seen.scan;
-    if scan.tag == tag {
-        return set.holds(seen.number);
-    }
-    false
-}
-
 // One more scan: it is shown where nothing was, or where it comes after what was.
 fn better_of(found: Newest, seen: Seen) -> Newest
     ensures { λ r. ⌜ r ≡ better found seen ⌝ }
@@ -75,6 +65,20 @@ fn better_of(found: Newest, seen: Seen) -> Newest
     }
 }
 
+// A scan of a table, where it is of the set and has the tag.
+fn consider(fields: &[u64], found: Newest, number: ScanId, set: Scans, tag: u64) -> Newest
+    ensures { λ r. ⌜ r ≡ (if isCandidate (seenAt (now (fields .entry)) (number .0)) set tag then better found (seenAt (now (fields .entry)) (number .0)) else found) ⌝ }
+{
+    let scan = scan_table::scan_at(fields, number);
+    if scan.tag != tag {
+        return found;
+    }
+    if !set.holds(number) {
+        return found;
+    }
+    better_of(found, Seen { number, scan })
+}
+
 // The newest of the first scans of a table, of those in the set with the tag.
 fn newest_of(fields: &[u64], scans: u16, set: Scans, tag: u64) -> Newest
     ensures { λ r. ⌜ r ≡ newest scans (now (fields .entry)) set tag ⌝ }
@@ -83,10 +87,8 @@ fn newest_of(fields: &[u64], scans: u16, set: Scans, tag: u64) -> Newest
     let mut i: u16 = 0;
     while i < scans {
         let number = ScanId(i);
-        let scan = scan_table::scan_at(fields, number);
-        let seen = Seen { number, scan };
-        if is_candidate(seen, set, tag) {
-            found = better_of(found, seen);
+        if scan_table::tag_at(fields, number) == tag {
+            found = consider(fields, found, number, set, tag);
         }
         i += 1;
     }

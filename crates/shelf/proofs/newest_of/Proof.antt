@@ -1,12 +1,12 @@
 -- `shelf::newest_of` meets its contract. The loop's invariant: what is found so far is the newest of the scans passed. The measure is how many
 -- are left. Assumes nothing.
-use mathlib.Core.Path.{_≡_}
-use mathlib.Core.Logic.{⊎-map}
+use mathlib.Core.Path.{_≡_, _∙_}
+use mathlib.Core.Logic.{⊎-elim}
 use Prim.Native.Nat.{_-_, _≤_}
 use native.Mathlib.Omega.{arith}
 use borrow.Author.Needs.{needs}
 use Rattle.shelf.specs.Shelf.{newest}
-use Rattle.shelf.proofs.Asking.{newest-one}
+use Rattle.shelf.proofs.Asking.{newest-next, newest-other}
 use Rattle.shelf.proofs.newest_of.Statement.{statement}
 use Rattle.shelf.proofs.newest_of.Tie as tie
 
@@ -20,14 +20,11 @@ loop-holds : tie.Need-loop-holds Inv-loop μ-loop
 unfolding newest
 loop-holds c = search needs
 
-scan-at-requires : tie.Need-scan-at-requires Inv-loop μ-loop
-scan-at-requires c κs = search needs
+tag-at-requires : tie.Need-tag-at-requires Inv-loop μ-loop
+tag-at-requires c κs = search needs
 
-is-candidate-requires : tie.Need-is-candidate-requires Inv-loop μ-loop
-is-candidate-requires c κs = search needs
-
-better-of-requires : tie.Need-better-of-requires Inv-loop μ-loop
-better-of-requires c κs = search needs
+consider-requires : tie.Need-consider-requires Inv-loop μ-loop
+consider-requires c κs = search needs
 
 add-i : tie.Need-add-i Inv-loop μ-loop
 add-i c = search needs
@@ -37,9 +34,14 @@ loop-less c = search needs
 
 loop-again : tie.Need-loop-again Inv-loop μ-loop
 loop-again c =
-    let a = c .before .before .before .before .before .before .args in
-    let l = c .before .before .before .before .loop in
-    (omega arith, newest-one (a .fields .now) (a .set) (a .tag) (l .i) (⊎-map (λ w. (cc, cc)) (λ w. (cc, cc)) (c .if1 .came)))
+    let a = c .before .before .before .before .before .args in
+    let l = c .before .before .before .loop in (
+      omega arith,
+      ⊎-elim
+          (λ w. newest-next (a .fields .now) (a .set) (a .tag) (l .i) (cc))
+          (λ w. newest-other (a .fields .now) (a .set) (a .tag) (l .i) (cc) (λ q. w .0 .left (c .before .tag-at .ensures ∙ q)))
+          (c .if1 .came),
+    )
 
 returns : tie.Need-returns Inv-loop μ-loop
 returns c =
@@ -54,9 +56,8 @@ newest-of-spec =
     Inv-loop
     μ-loop
     loop-holds
-    scan-at-requires
-    is-candidate-requires
-    better-of-requires
+    tag-at-requires
+    consider-requires
     add-i
     loop-less
     loop-again

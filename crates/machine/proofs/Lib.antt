@@ -1,0 +1,11 @@
+pub mod Again
+pub mod Called
+pub mod Filling
+pub mod LentCalls
+pub mod Loading
+pub mod Posting
+pub mod Searching
+pub mod Storing
+pub mod Testing
+pub mod Turns
+pub mod Unchanged

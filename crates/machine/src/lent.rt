@@ -1,0 +1,152 @@
+// The records that a caller lends: one read or stored, and the table of messages searched, posted to and freed.
+ghost use mathlib.Core.Path.{_≡_};
+ghost use Prim.Native.Nat.{_<_};
+ghost use lib.ListN.{length, getD, set, replicate};
+ghost use Rattle.model.specs.Records.{freshProposer, freshAcceptor, freshLearner, freeSlot};
+ghost use Rattle.model.specs.Table.{post};
+ghost use Rattle.machine.specs.Sending.{itemsOf, lacking};
+ghost use Rattle.machine.specs.Slots.{isTaken, leftAfter, searching, lowestFrom, FreeFrom, Ready};
+use crate::sending::Send;
+use crate::sending::count_of;
+use crate::sending::item;
+use choice::both;
+use model::Acceptor;
+use model::Learner;
+use model::Message;
+use model::Proposer;
+
+pub fn load_proposer(t: &[Proposer], i: usize) -> Proposer
+    requires { ⌜ i < length (now t) ⌝ }
+    ensures { λ r. ⌜ r ≡ getD (now (t .entry)) i freshProposer ⌝ }
+{
+    t[i]
+}
+
+pub fn load_acceptor(t: &[Acceptor], i: usize) -> Acceptor
+    requires { ⌜ i < length (now t) ⌝ }
+    ensures { λ r. ⌜ r ≡ getD (now (t .entry)) i freshAcceptor ⌝ }
+{
+    t[i]
+}
+
+pub fn load_learner(t: &[Learner], i: usize) -> Learner
+    requires { ⌜ i < length (now t) ⌝ }
+    ensures { λ r. ⌜ r ≡ getD (now (t .entry)) i freshLearner ⌝ }
+{
+    t[i]
+}
+
+pub fn load_message(t: &[Message], i: usize) -> Message
+    requires { ⌜ i < length (now t) ⌝ }
+    ensures { λ r. ⌜ r ≡ getD (now (t .entry)) i freeSlot ⌝ }
+{
+    t[i]
+}
+
+pub fn store_proposer(t: &mut [Proposer], i: usize, m: Proposer)
+    requires { ⌜ i < length (now t) ⌝ }
+    ensures { λ _. ⌜ now (t .exit) ≡ set (now (t .entry)) i m ⌝ }
+{
+    t[i] = m;
+}
+
+pub fn store_acceptor(t: &mut [Acceptor], i: usize, m: Acceptor)
+    requires { ⌜ i < length (now t) ⌝ }
+    ensures { λ _. ⌜ now (t .exit) ≡ set (now (t .entry)) i m ⌝ }
+{
+    t[i] = m;
+}
+
+pub fn store_learner(t: &mut [Learner], i: usize, m: Learner)
+    requires { ⌜ i < length (now t) ⌝ }
+    ensures { λ _. ⌜ now (t .exit) ≡ set (now (t .entry)) i m ⌝ }
+{
+    t[i] = m;
+}
+
+pub fn store_message(t: &mut [Message], i: usize, m: Message)
+    requires { ⌜ i < length (now t) ⌝ }
+    ensures { λ _. ⌜ now (t .exit) ≡ set (now (t .entry)) i m ⌝ }
+{
+    t[i] = m;
+}
+
+// Of `left` free slots still to be found, those left after a slot.
+fn left_after(m: Message, left: u8) -> u8
+    requires { ⌜ 0 < left ⌝ }
+    ensures { λ r. ⌜ r ≡ leftAfter m left ⌝ }
+{
+    if m.is_free() {
+        return left - 1;
+    }
+    left
+}
+
+fn is_searching(at: usize, n: usize, left: u8) -> bool
+    ensures { λ r. ⌜ r ≡ searching at n left ⌝ }
+{
+    both(0 < left, at < n)
+}
+
+// How many of `need` free slots the table lacks. The search ends where it has found them.
+pub fn room(t: &[Message], need: u8) -> u8
+    ensures { λ r. ⌜ r ≡ lacking need (now (t .entry)) ⌝ }
+{
+    let mut left = need;
+    let mut at: usize = 0;
+    while is_searching(at, t.len(), left) {
+        let m = t[at];
+        left = left_after(m, left);
+        at += 1;
+    }
+    left
+}
+
+fn is_taken(m: Message) -> bool
+    ensures { λ r. ⌜ r ≡ isTaken m ⌝ }
+{
+    !m.is_free()
+}
+
+// The lowest free slot from `from` on, where there is one.
+pub fn next_free(t: &[Message], from: usize) -> usize
+    requires { ⌜ FreeFrom from (now t) ⌝ }
+    ensures { λ r. ⌜ r ≡ lowestFrom from (now (t .entry)) ⌝ }
+{
+    let mut at = from;
+    let mut m = t[at];
+    while is_taken(m) {
+        at += 1;
+        m = t[at];
+    }
+    at
+}
+
+// Each message into the lowest free slot at that moment. No slot below `at` is free.
+pub fn send_all(t: &mut [Message], s: Send)
+    requires { ⌜ Ready s (now t) ⌝ }
+    ensures { λ _. ⌜ now (t .exit) ≡ post (itemsOf s) (now (t .entry)) ⌝ }
+{
+    let count = count_of(s);
+    let mut j: u8 = 0;
+    let mut at: usize = 0;
+    while j < count {
+        let k = next_free(t, at);
+        let m = item(s, j);
+        store_message(t, k, m);
+        at = k + 1;
+        j += 1;
+    }
+}
+
+// Every slot free.
+pub fn free_all(t: &mut [Message])
+    ensures { λ _. ⌜ now (t .exit) ≡ replicate (length (now (t .entry))) freeSlot ⌝ }
+{
+    let x = Message::free();
+    let mut i: usize = 0;
+    while i < t.len() {
+        t[i] = x;
+        i += 1;
+    }
+}

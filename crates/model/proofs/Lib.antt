@@ -18,3 +18,4 @@ pub mod Refusals
 pub mod FreeSlots
 pub mod Computing
 pub mod Examples
+pub mod Answers

@@ -11,6 +11,7 @@ use sets::ProposerId;
 use sets::acceptors::Acceptors;
 use sets::scans::Scans;
 
+#[repr(C)]
 pub struct Proposer {
     pub alive: bool,
     pub active: bool,
@@ -23,12 +24,14 @@ pub struct Proposer {
     pub decided: Scans,
 }
 
+#[repr(C)]
 pub struct Acceptor {
     pub alive: bool,
     pub accepted: Scans,
 }
 
 // The newest number heard of one proposer, its set and its acceptors.
+#[repr(C)]
 pub struct Heard {
     pub number: u16,
     pub set: Scans,
@@ -36,6 +39,7 @@ pub struct Heard {
 }
 
 // One place of `heard` for each proposer; those past the run's own are no records.
+#[repr(C)]
 pub struct Learner {
     pub alive: bool,
     pub learnt: Scans,
@@ -43,6 +47,7 @@ pub struct Learner {
 }
 
 // A slot of the table of messages in flight. Kind 0 free, 1 internal, 2 proposal, 3 acknowledgement to a proposer, 4 rejection, 5 acknowledgement to a learner.
+#[repr(C)]
 pub struct Message {
     pub kind: u8,
     pub addressee: u8,
@@ -52,6 +57,7 @@ pub struct Message {
     pub set: Scans,
 }
 
+#[repr(C)]
 pub struct Event {
     pub code: u64,
     pub a: u64,

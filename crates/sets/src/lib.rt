@@ -3,10 +3,14 @@ pub mod acceptors;
 pub mod scans;
 
 // The numbers of a proposer, an acceptor, a learner and a scan, each from 0.
+#[repr(C)]
 pub struct ProposerId(pub u8);
 
+#[repr(C)]
 pub struct AcceptorId(pub u8);
 
+#[repr(C)]
 pub struct LearnerId(pub u8);
 
+#[repr(C)]
 pub struct ScanId(pub u16);

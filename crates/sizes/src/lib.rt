@@ -7,6 +7,7 @@ use sets::acceptors::MOST_ACCEPTORS;
 use sets::scans::MOST_SCANS;
 
 // How many proposers, acceptors, learners, message slots and scans a run has.
+#[repr(C)]
 pub struct Sizes {
     pub proposers: u16,
     pub acceptors: u16,

@@ -11,6 +11,7 @@ pub mod Later
 pub mod Invariant
 pub mod Kept
 pub mod Moments
+pub mod Answers
 pub mod Safety
 pub mod RuleRanges
 pub mod InRange
@@ -18,4 +19,3 @@ pub mod Refusals
 pub mod FreeSlots
 pub mod Computing
 pub mod Examples
-pub mod Answers

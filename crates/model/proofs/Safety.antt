@@ -31,6 +31,7 @@ use Rattle.model.proofs.Invariant.{Known, More, AllReceived, Chosen, no
 use Rattle.model.proofs.Kept.{News, step-inv}
 use Rattle.scan_table.specs.Table.{scansIn}
 use Rattle.shelf.proofs.ShelfLaws.{where-later}
+use Rattle.model.proofs.Answers.{said-given}
 use Rattle.model.proofs.InRange.{given-fits}
 use Rattle.model.proofs.Moments.{first, next, later, earlier}
 
@@ -197,6 +198,7 @@ module _ (z : Sizes) (es : List Event) where
   -- demand 3: for any sizes and any events
   pub safe : Safe z es
   safe = record {
+    said = said-given z es;
     comparable = λ i j u v x y. chosen-chain i j u v (given-choice i u x) (given-choice j v y);
     neverShrinks = λ i j l h. later z es i j h .learnt l;
     received = λ i k v x m. given-received i v x .each k m;

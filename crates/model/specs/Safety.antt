@@ -3,7 +3,7 @@ use mathlib.Core.Path.{_≡_}
 use mathlib.Core.Logic.{_⊎_}
 use mathlib.Core.Bool.{true}
 use mathlib.Core.List.{List}
-use Prim.Native.Nat.{ℕ, _≤_, _<_}
+use Prim.Native.Nat.{ℕ, suc, _≤_, _<_}
 use lib.ListN.{getD, take}
 use Rattle.sizes.specs.declared.Sizes.{Sizes}
 use Rattle.sets.specs.Scans.{empty, _⊆_, _∈_}
@@ -11,14 +11,17 @@ use Rattle.sets.specs.Acceptors.{_among_, fitsRun, isMajority}
 use Rattle.sets.specs.declared.scans.Scans.{Scans}
 use Rattle.sets.specs.declared.acceptors.Acceptors.{Acceptors}
 use Rattle.sets.specs.declared.ScanId.{ScanId}
+use Rattle.sets.specs.declared.LearnerId.{LearnerId}
+use Rattle.sets.specs.declared.ProposerId.{ProposerId}
 use Rattle.scan_table.specs.Table.{scansIn}
 use Rattle.shelf.specs.Shelf.{whereIs}
 use Rattle.shelf.specs.declared.Shelf.{Shelf}
 use Rattle.shelf.specs.declared.Shelf.the-variants.{Shown}
 use Rattle.model.specs.declared.Event.{Event}
+use Rattle.model.specs.declared.Answer.the-variants.{Ok, Learnt, Decided}
 use Rattle.model.specs.Records.{State, proposal, kindOf, fresh, proposerOf, acceptorOf, learnerOf, slotOf}
 use Rattle.model.specs.Events.{Code, receive, deliver, codeOf}
-use Rattle.model.specs.Step.{stepNo, run}
+use Rattle.model.specs.Step.{stepNo, run, answers}
 
 -- ---- the moments of a run
 
@@ -40,6 +43,11 @@ moment z es i = run z (fresh z) (take i es)
 pub data Given (s : State) (v : Scans) : Type 0 where
   learnt : (l : ℕ) → learnerOf s l .learnt ≡ v → Given s v
   decided : (p : ℕ) → proposerOf s p .decided ≡ v → Given s v
+
+-- event i of a run answered that the set is learnt, or that it is decided
+pub data Said (z : Sizes) (es : List Event) (i : ℕ) (v : Scans) : Type 0 where
+  tellsLearnt : (l : LearnerId) → getD (answers z (fresh z) es) i Ok ≡ Learnt l v → Said z es i v
+  tellsDecided : (p : ProposerId) → getD (answers z (fresh z) es) i Ok ≡ Decided p v → Said z es i v
 
 -- the event, meeting the state s, is an accepted Receive of the scan k
 pub record Receives (z : Sizes) (s : State) (e : Event) (k : ℕ) : Type 0 where
@@ -90,6 +98,8 @@ pub record ShowsBy (t : ℕ) (answer : Shelf) : Type 0 where
 -- ---- demand 3
 
 pub record Safe (z : Sizes) (es : List Event) : Type 0 where
+  -- what a run says is learnt or decided is so right after that event
+  pub said : (i : ℕ) (v : Scans) → Said z es i v → Given (moment z es (suc i)) v
   -- of any two sets learnt or decided, by anyone at any two moments, one contains the other
   pub comparable : (i j : ℕ) (u v : Scans) → Given (moment z es i) u → Given (moment z es j) v → (u ⊆ v) ⊎ (v ⊆ u)
   -- what a learner has learnt never shrinks

@@ -1,3 +1,5 @@
-// The step machine: one event on the records that a caller lends. What stands so far: one record read and stored, room looked for, messages sent.
+// The step machine: one event on the records that a caller lends.
+mod decide;
 mod lent;
 mod sending;
+mod step;

@@ -55,7 +55,7 @@ test-ranges z s h = record {
   slots = λ i. all-at (messageInRange z) freeSlot (s .slots) i (free-slot-range z) (search (and-l, and-r) depth 9);
 }
 
-sizes-in-range : (z : Sizes) (s : State) → recordsInRange z s ≡ true → sizesInRange z ≡ true
+pub sizes-in-range : (z : Sizes) (s : State) → recordsInRange z s ≡ true → sizesInRange z ≡ true
 unfolding recordsInRange
 sizes-in-range z s h = search (and-l) depth 9
 

@@ -105,7 +105,7 @@ length-place m [] = refl
 length-place m (x ∷ t) =
     if-ind (λ (u : List Message). length u ≡ suc (length t)) (isFree x) (m ∷ t) (x ∷ place m t) (λ e. refl) (λ e. ap suc (length-place m t))
 
-length-post : (ms t : List Message) → length (post ms t) ≡ length t
+pub length-post : (ms t : List Message) → length (post ms t) ≡ length t
 unfolding post
 length-post [] t = refl
 length-post (m ∷ ms) t = length-post ms (place m t) ∙ length-place m t

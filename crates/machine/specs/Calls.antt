@@ -1,0 +1,92 @@
+-- What the calls promise, of the records that a caller lends: fresh, one step, a run, and a run from fresh on records of its own.
+use mathlib.Core.Path.{_≡_}
+use mathlib.Core.Bool.{Bool, _&&_}
+use mathlib.Core.List.{List, [], _∷_, _++_}
+use Prim.Native.Nat.{ℕ, _+_, _*_}
+use lib.Dec.{eqb, leb}
+use lib.ListN.{length, drop}
+use Rattle.choice.specs.Choice.{if_then_else_}
+use Rattle.sizes.specs.Sizes.{sizesInRange}
+use Rattle.sizes.specs.declared.Sizes.{Sizes}
+use Rattle.model.specs.Records.{State, fresh}
+use Rattle.model.specs.Tests.{_unless_, _⨾_, ok}
+use Rattle.model.specs.Ranges.{lengthsInRange, recordsInRange}
+use Rattle.model.specs.Step.{step, run, answers}
+use Rattle.model.specs.declared.Proposer.{Proposer}
+use Rattle.model.specs.declared.Acceptor.{Acceptor}
+use Rattle.model.specs.declared.Learner.{Learner}
+use Rattle.model.specs.declared.Message.{Message}
+use Rattle.model.specs.declared.Event.{Event}
+use Rattle.model.specs.declared.Answer.{Answer}
+use Rattle.machine.specs.Running.{eventsIn, saidNo, saidSet}
+
+-- the records that a caller lends
+abbrev pub lent : List Proposer → List Acceptor → List Learner → List Message → State
+lent ps acs ls t = record { proposers = ps; acceptors = acs; learners = ls; slots = t }
+
+-- how many there are of each
+abbrev pub lengthsAre : Sizes → ℕ → ℕ → ℕ → ℕ → Bool
+lengthsAre z p a l m = eqb p (z .proposers) && eqb a (z .acceptors) && eqb l (z .learners) && eqb m (z .slots)
+
+-- ---- fresh: 1 for a size out of its range or another number of records or slots
+
+abbrev pub freshNo : Sizes → State → ℕ
+freshNo z s = 1 unless (sizesInRange z && lengthsInRange z s) ⨾ ok
+
+abbrev pub afterFresh : Sizes → State → State
+afterFresh z s = if eqb (freshNo z s) 0 then fresh z else s
+
+-- ---- a run of n events, three numbers each; each answer is two numbers of the log
+
+-- the answers as they stand in a log
+unfoldable pub said : List Answer → List ℕ
+said [] = []
+said (w ∷ ws) = saidNo w ∷ saidSet w ∷ said ws
+
+-- what stands past them stays
+abbrev pub logged : List Answer → List ℕ → List ℕ
+logged ws log = said ws ++ drop (2 * length ws) log
+
+-- there are numbers for n events, and room for their answers
+abbrev pub hasNumbers : List ℕ → ℕ → List ℕ → Bool
+hasNumbers ns n log = leb (3 * n) (length ns) && leb (2 * n) (length log)
+
+abbrev pub runNo : Sizes → State → List ℕ → ℕ → List ℕ → ℕ
+runNo z s ns n log = 1 unless recordsInRange z s ⨾ 8 unless hasNumbers ns n log ⨾ ok
+
+abbrev pub afterRun : Sizes → State → List ℕ → ℕ → List ℕ → State
+afterRun z s ns n log = if eqb (runNo z s ns n log) 0 then run z s (eventsIn ns n) else s
+
+abbrev pub logAfterRun : Sizes → State → List ℕ → ℕ → List ℕ → List ℕ
+logAfterRun z s ns n log = if eqb (runNo z s ns n log) 0 then logged (answers z s (eventsIn ns n)) log else log
+
+-- ---- a run from fresh, on records of its own
+
+abbrev pub wholeRunNo : Sizes → List ℕ → ℕ → List ℕ → ℕ
+wholeRunNo z ns n log = 1 unless sizesInRange z ⨾ 8 unless hasNumbers ns n log ⨾ ok
+
+abbrev pub logAfterWholeRun : Sizes → List ℕ → ℕ → List ℕ → List ℕ
+logAfterWholeRun z ns n log = if eqb (wholeRunNo z ns n log) 0 then logged (answers z (fresh z) (eventsIn ns n)) log else log
+
+-- ---- the calls' promises: what is given, what is answered, what is left
+
+-- the four lists that are left, one by one
+abbrev pub Leaves : State → State → Type 0
+Leaves t u = (t .proposers ≡ u .proposers) × ((t .acceptors ≡ u .acceptors) × ((t .learners ≡ u .learners) × (t .slots ≡ u .slots)))
+
+abbrev pub FreshCall : Sizes → State → ℕ → State → Type 0
+FreshCall z s r t = (r ≡ freshNo z s) × Leaves t (afterFresh z s)
+
+abbrev pub StepCall : Sizes → State → Event → Answer → State → Type 0
+StepCall z s e r t = (r ≡ step z s e .answer) × Leaves t (step z s e .state)
+
+abbrev pub RunCall : Sizes → State → List ℕ → ℕ → List ℕ → ℕ → State → List ℕ → Type 0
+RunCall z s ns n log r t log′ =
+    (r ≡ runNo z s ns n log)
+    × ((t .proposers ≡ afterRun z s ns n log .proposers)
+    × ((t .acceptors ≡ afterRun z s ns n log .acceptors)
+    × ((t .learners ≡ afterRun z s ns n log .learners)
+    × ((t .slots ≡ afterRun z s ns n log .slots) × (log′ ≡ logAfterRun z s ns n log)))))
+
+abbrev pub WholeRunCall : Sizes → List ℕ → ℕ → List ℕ → ℕ → List ℕ → Type 0
+WholeRunCall z ns n log r log′ = (r ≡ wholeRunNo z ns n log) × (log′ ≡ logAfterWholeRun z ns n log)

@@ -1,0 +1,109 @@
+-- One event on the records that a caller lends, as the code does it: fetch, decide, write back.
+use mathlib.Core.Path.{_≡_}
+use mathlib.Core.Bool.{Bool, true, false}
+use mathlib.Core.List.{List, [], _∷_}
+use Prim.Native.Nat.{ℕ, _-_, _≤_}
+use lib.Dec.{eqb, ltb}
+use lib.ListN.{length, getD, set}
+use Rattle.choice.specs.Choice.{if_then_else_}
+use Rattle.sizes.specs.Sizes.{sizesInRange}
+use Rattle.sizes.specs.declared.Sizes.{Sizes}
+use Rattle.model.specs.Records.{freshProposer, freshAcceptor, freshLearner, freeSlot}
+use Rattle.model.specs.Table.{post}
+use Rattle.model.specs.Events.{Code, receive, deliver, drop, duplicate, propose, refine, decide, crash, noCode, codeOf}
+use Rattle.model.specs.declared.Proposer.{Proposer}
+use Rattle.model.specs.declared.Acceptor.{Acceptor}
+use Rattle.model.specs.declared.Learner.{Learner}
+use Rattle.model.specs.declared.Message.{Message}
+use Rattle.model.specs.declared.Event.{Event}
+use Rattle.model.specs.declared.Answer.{Answer}
+use Rattle.model.specs.declared.Answer.the-variants.{Refused}
+use Rattle.machine.specs.declared.decide.Change.{Change}
+use Rattle.machine.specs.declared.step.Decision.{Decision}
+use Rattle.machine.specs.Sending.{itemsOf, lacking}
+use Rattle.machine.specs.Change.{unchanged, changeOf, learnerAfter, slotAfter, answerOf}
+use Rattle.machine.specs.Refusals.{testNo}
+
+-- ---- which records an event finds
+
+-- i where it is one of n, and otherwise 0
+unfoldable pub within : ℕ → ℕ → ℕ
+within i n = if ltb i n then i else 0
+
+-- the number of the party that an event is about
+unfoldable pub partyAt : Event → Message → Code → ℕ
+partyAt e m receive = e .a
+partyAt e m deliver = m .addressee
+partyAt e m drop = e .a
+partyAt e m duplicate = e .a
+partyAt e m propose = e .a
+partyAt e m refine = e .a
+partyAt e m decide = e .a
+partyAt e m crash = e .b
+partyAt e m noCode = e .a
+
+abbrev pub partyOf : Event → Message → ℕ
+partyOf e m = partyAt e m (codeOf (e .code))
+
+-- ---- what is decided
+
+-- free slots that the event asks for: the slot that it frees is there for what it sends
+unfoldable pub needOf : ℕ → Bool → ℕ → ℕ
+needOf n frees count = if eqb n 0 then (if frees then count - 1 else count) else 0
+
+abbrev decided : Change → ℕ → Decision
+decided d n = record { no = n; need = needOf n (d .frees) (d .send .count); change = d }
+
+unfoldable pub decideOf : Sizes → Event → Message → Proposer → Acceptor → Learner → Decision
+decideOf z e m q c l = decided (changeOf z (e .a) (e .b) m q c (codeOf (e .code))) (testNo z (e .a) (e .b) m q (c .alive) (l .alive) (codeOf (e .code)))
+
+abbrev pub refusedOf : ℕ → Proposer → Acceptor → Decision
+refusedOf n q c = record { no = n; need = 0; change = unchanged q c }
+
+-- 8 where slots are lacking
+unfoldable pub finishOf : Decision → ℕ → Proposer → Acceptor → Decision
+finishOf d left q c = if eqb (d .no) 0 then (if eqb left 0 then d else refusedOf 8 q c) else refusedOf (d .no) q c
+
+unfoldable pub replyOf : Sizes → Event → Decision → Message → Learner → Answer
+replyOf z e f m l = if eqb (f .no) 0 then answerOf z (f .change .hears) (f .change .proposer .decided) (e .a) m l (codeOf (e .code)) else Refused (f .no)
+
+-- ---- the whole
+
+-- there is a record for each of the run's parties, and a slot for each of M
+abbrev pub Fits : Sizes → List Proposer → List Acceptor → List Learner → List Message → Type 0
+Fits z ps acs ls t = (sizesInRange z ≡ true) × ((z .proposers ≤ length ps) × ((z .acceptors ≤ length acs) × ((z .learners ≤ length ls) × (z .slots ≤ length t))))
+
+pub record Left : Type 0 where
+  pub answer : Answer
+  pub proposers : List Proposer
+  pub acceptors : List Acceptor
+  pub learners : List Learner
+  pub slots : List Message
+
+module _ (z : Sizes) (e : Event) (ps : List Proposer) (acs : List Acceptor) (ls : List Learner) (t : List Message) where
+  abbrev pub theMessage : Message
+  theMessage = getD t (within (e .a) (z .slots)) freeSlot
+
+  abbrev pub theProposer : Proposer
+  theProposer = getD ps (within (partyOf e theMessage) (z .proposers)) freshProposer
+
+  abbrev pub theAcceptor : Acceptor
+  theAcceptor = getD acs (within (partyOf e theMessage) (z .acceptors)) freshAcceptor
+
+  abbrev pub theLearner : Learner
+  theLearner = getD ls (within (partyOf e theMessage) (z .learners)) freshLearner
+
+  abbrev pub theDecision : Decision
+  theDecision = decideOf z e theMessage theProposer theAcceptor theLearner
+
+  abbrev pub finished : Decision
+  finished = finishOf theDecision (lacking (theDecision .need) t) theProposer theAcceptor
+
+  abbrev pub stepOf : Left
+  stepOf = record {
+    answer = replyOf z e finished theMessage theLearner;
+    proposers = set ps (within (partyOf e theMessage) (z .proposers)) (finished .change .proposer);
+    acceptors = set acs (within (partyOf e theMessage) (z .acceptors)) (finished .change .acceptor);
+    learners = set ls (within (partyOf e theMessage) (z .learners)) (learnerAfter z (finished .change .hears) (finished .change .stops) theMessage theLearner);
+    slots = post (itemsOf (finished .change .send)) (set t (within (e .a) (z .slots)) (slotAfter (finished .change .frees) theMessage));
+  }

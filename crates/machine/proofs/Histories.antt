@@ -23,6 +23,7 @@ use Rattle.model.proofs.Moments.{last}
 use Rattle.model.proofs.Safety.{safe}
 use Rattle.machine.specs.Running.{eventsIn}
 use Rattle.machine.specs.Calls.{lent, Leaves, afterFresh, runNo, afterRun}
+use Rattle.machine.proofs.RunLaws.{run-next}
 use Rattle.machine.specs.Histories.{doneBy, History, madeFresh, stepped, ran, Relies}
 
 -- a state is its four lists
@@ -39,10 +40,6 @@ run-on : (z : Sizes) (s : State) (es fs : List Event) → run z s (es ++ fs) ≡
 unfolding run
 run-on z s [] fs = refl
 run-on z s (e ∷ es) fs = run-on z (step z s e .state) es fs
-
-run-one : (z : Sizes) (s : State) (es : List Event) (e : Event) → run z s (es ++ (e ∷ [])) ≡ step z (run z s es) e .state
-unfolding run
-run-one z s es e = run-on z s es (e ∷ [])
 
 answer-last : (z : Sizes) (s : State) (es : List Event) (e : Event) → getD (answers z s (es ++ (e ∷ []))) (length es) Ok ≡ step z (run z s es) e .answer
 unfolding run answers
@@ -75,7 +72,7 @@ history-run z _ _ (madeFresh s t c) =
     record { sizes = f .0; state = same-state t (afterFresh z s) (c .1) ∙ f .1 }
 history-run z _ _ (stepped es s t e r h c) =
     let x = history-run z es s h in
-    record { sizes = x .sizes; state = same-state t (step z s e .state) (c .1) ∙ ap (λ (u : State). step z u e .state) (x .state) ∙ sym (run-one z (fresh z) es e) }
+    record { sizes = x .sizes; state = same-state t (step z s e .state) (c .1) ∙ ap (λ (u : State). step z u e .state) (x .state) ∙ sym (run-next z (fresh z) es e) }
 history-run z _ _ (ran es s t ns n log log′ r h c) =
     let x = history-run z es s h in
     record {

@@ -9,11 +9,13 @@ pub mod Posting
 pub mod Searching
 pub mod Sendable
 pub mod Readiness
+pub mod Items
+pub mod EventLaws
+pub mod StepLaws
+pub mod RunLaws
+pub mod Longer
+pub mod Histories
 pub mod Storing
 pub mod Testing
 pub mod Turns
 pub mod Unchanged
-pub mod Agreement
-pub mod RunLaws
-pub mod Longer
-pub mod Histories

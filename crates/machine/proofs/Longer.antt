@@ -34,7 +34,6 @@ use Rattle.machine.specs.Stepping.{within, partyOf, decideOf, finishOf, 
 use Rattle.machine.specs.Running.{eventOf, eventsIn, noted, Ran, onward, ranTo, driven, Drives}
 use Rattle.machine.specs.Calls.{logged, hasNumbers, wholeRunNo, logAfterWholeRun}
 use Rattle.machine.proofs.Readiness.{proposer-there, acceptor-there, learner-there, slot-there}
-use Rattle.machine.proofs.Agreement.{StepAgrees}
 use Rattle.machine.proofs.RunLaws.{driven-ends, in-range-fits, numbers-there}
 
 -- ---- the table, with taken slots behind
@@ -221,13 +220,13 @@ module _ (z : Sizes) (ps : List Proposer) (acs : List Acceptor) (ls : List Learn
   pub whole-run-drives : Drives z ps acs ls t ns log (if eqb (wholeRunNo z ns n log) 0 then n else 0)
   whole-run-drives = whole-run-drives-by (sizesInRange z) (hasNumbers ns n log) refl refl
 
-module _ (agrees : StepAgrees) (z : Sizes) (ps : List Proposer) (acs : List Acceptor) (ls : List Learner) (t : List Message) (first : sizesInRange z ≡ true → FreshFirst z ps acs ls t) (ns : List ℕ) (n : ℕ) (log : List ℕ) where
+module _ (z : Sizes) (ps : List Proposer) (acs : List Acceptor) (ls : List Learner) (t : List Message) (first : sizesInRange z ≡ true → FreshFirst z ps acs ls t) (ns : List ℕ) (n : ℕ) (log : List ℕ) where
   -- all n events
   first-log : sizesInRange z ≡ true → FreshFirst z ps acs ls t → 2 * n ≤ length log → driven z ps acs ls t ns log n .log ≡ logged (answers z (fresh z) (eventsIn ns n)) log
   first-log h x room =
       (λ i. driven z (x .proposers i) (x .acceptors i) (x .learners i) (x .slots i) ns log n .log)
       ∙ ap (λ (r : Ran). r .log) (driven-longer z (fresh z .proposers) (fresh z .acceptors) (fresh z .learners) (fresh z .slots) (fresh-fits z h) ns log (x .moreProposers) (x .moreAcceptors) (x .moreLearners) (x .moreSlots) (x .taken) n)
-      ∙ driven-ends agrees z (fresh z .proposers) (fresh z .acceptors) (fresh z .learners) (fresh z .slots) ns log (fresh-in-range z h) n room .log
+      ∙ driven-ends z (fresh z .proposers) (fresh z .acceptors) (fresh z .learners) (fresh z .slots) ns log (fresh-in-range z h) n room .log
 
   whole-run-log-by : (u v : Bool) → sizesInRange z ≡ u → hasNumbers ns n log ≡ v
       → driven z ps acs ls t ns log (if eqb (1 unless u ⨾ 8 unless v ⨾ ok) 0 then n else 0) .log

@@ -33,7 +33,7 @@ within-by : (t : Bool) (i n k : ℕ) → (Holds t → i < n) → n ≤ k → 1 �
 within-by true i n k h e l = omega (arith, h tt)
 within-by false i n k h e l = omega arith
 
-within-in : (i n k : ℕ) → n ≤ k → 1 ≤ n → within i n < k
+pub within-in : (i n k : ℕ) → n ≤ k → 1 ≤ n → within i n < k
 unfolding within
 within-in i n k e l = within-by (ltb i n) i n k (ltb→lt i n) e l
 
@@ -52,11 +52,11 @@ module _ (z : Sizes) (ps : List Proposer) (acs : List Acceptor) (ls : List Learn
 
 -- ---- room
 
--- a slot stored as it is
-same : (l : List Message) (k : ℕ) → set l k (getD l k freeSlot) ≡ l
-same [] k = refl
-same (x ∷ l) zero = refl
-same (x ∷ l) (suc k) = ap (λ (r : List Message). x ∷ r) (same l k)
+-- a record stored as it was
+pub same : {B : Type 0} (d : B) (l : List B) (k : ℕ) → set l k (getD l k d) ≡ l
+same d [] k = refl
+same d (x ∷ l) zero = refl
+same {B} d (x ∷ l) (suc k) = ap (λ (r : List B). x ∷ r) (same d l k)
 
 -- one slot more is free where a taken one is freed
 more-by : (t : Bool) (f g : ℕ) → g ≡ suc f → (if t then suc g else g) ≡ suc (if t then suc f else f)
@@ -78,7 +78,7 @@ one-there c f g e h = omega arith
 
 room-by : (frees : Bool) (c k : ℕ) (t : List Message) → k < length t → (Holds frees → Holds (isTaken (getD t k freeSlot))) → lacking (if frees then c - 1 else c) t ≡ 0 → lacking c (set t k (if frees then freeSlot else getD t k freeSlot)) ≡ 0
 room-by true c k t i tk h = one-there c (freeSlots t) (freeSlots (set t k freeSlot)) (freed t k i (tk tt)) h
-room-by false c k t i tk h = ap (lacking c) (same t k) ∙ h
+room-by false c k t i tk h = ap (lacking c) (same freeSlot t k) ∙ h
 
 -- ---- what is decided can be sent
 
@@ -101,7 +101,7 @@ finish-by true true t k d q c f = f tt tt
 finish-by true false t k d q c f = unchanged-ready t k q c
 finish-by false b t k d q c f = unchanged-ready t k q c
 
-need-none : (n : ℕ) (frees : Bool) (c : ℕ) → n ≡ 0 → needOf n frees c ≡ (if frees then c - 1 else c)
+pub need-none : (n : ℕ) (frees : Bool) (c : ℕ) → n ≡ 0 → needOf n frees c ≡ (if frees then c - 1 else c)
 unfolding needOf
 need-none n frees c e = ap (λ (k : ℕ). if eqb k 0 then (if frees then c - 1 else c) else 0) e
 

@@ -1,4 +1,4 @@
--- A run on lent records is the model's run, where one step agrees with the model's step.
+-- A run on lent records is the model's run: one step agrees with the model's step, and a run is its steps.
 use mathlib.Core.Path.{_≡_, refl, sym, _∙_, ap, ap₂, subst}
 use mathlib.Core.Bool.{Bool, true, false}
 use mathlib.Core.List.{List, [], _∷_, _++_, map, append-assoc}
@@ -16,21 +16,19 @@ use Rattle.model.specs.Records.{State}
 use Rattle.model.specs.Table.{from}
 use Rattle.model.specs.Tests.{_unless_, _⨾_, ok}
 use Rattle.model.specs.Ranges.{recordsInRange}
-use Rattle.model.specs.Step.{stepNo, step, run, answers}
+use Rattle.model.specs.Step.{step, run, answers}
 use Rattle.model.specs.declared.Proposer.{Proposer}
 use Rattle.model.specs.declared.Acceptor.{Acceptor}
 use Rattle.model.specs.declared.Learner.{Learner}
 use Rattle.model.specs.declared.Message.{Message}
 use Rattle.model.specs.declared.Event.{Event}
 use Rattle.model.specs.declared.Answer.{Answer}
-use Rattle.model.specs.declared.Answer.the-variants.{Refused}
 use Rattle.model.proofs.Cases.{and-l, and-r}
-use Rattle.model.proofs.Steps.{refusal-keeps}
 use Rattle.model.proofs.InRange.{test-ranges, sizes-in-range, step-in-range}
 use Rattle.machine.specs.Stepping.{Fits, stepOf}
 use Rattle.machine.specs.Running.{eventOf, eventsIn, saidNo, saidSet, noted, Ran, onward, ranTo, driven, Drives, timesFrom, timesOf, Repeats}
 use Rattle.machine.specs.Calls.{lent, said, logged, hasNumbers, runNo, afterRun, logAfterRun}
-use Rattle.machine.proofs.Agreement.{Agrees, StepAgrees}
+use Rattle.machine.proofs.StepLaws.{Agrees, step-agrees, step-refused}
 
 -- ---- one event more
 
@@ -48,7 +46,7 @@ length-from f i zero = refl
 length-from f i (suc n) = ap suc (length-from f (suc i) n)
 
 module _ (z : Sizes) where
-  run-next : (s : State) (es : List Event) (e : Event) → run z s (es ++ (e ∷ [])) ≡ step z (run z s es) e .state
+  pub run-next : (s : State) (es : List Event) (e : Event) → run z s (es ++ (e ∷ [])) ≡ step z (run z s es) e .state
   unfolding run
   run-next s [] e = refl
   run-next s (x ∷ es) e = run-next (step z s x .state) es e
@@ -119,11 +117,11 @@ same-state x = λ i. record { proposers = x .proposers i; acceptors = x .accepto
 none-ends : (r : Ran) → Ends r (left r) (r .log)
 none-ends r = record { proposers = refl; acceptors = refl; learners = refl; slots = refl; log = refl }
 
-module _ (agrees : StepAgrees) (z : Sizes) where
+module _ (z : Sizes) where
   step-ends : (e : Event) {r : Ran} {s : State} {numbers : List ℕ} → Ends r s numbers → recordsInRange z s ≡ true
       → Agrees (stepOf z e (r .proposers) (r .acceptors) (r .learners) (r .slots)) (step z s e)
   step-ends e {s} x h =
-      subst (λ (u : State). Agrees (stepOf z e (u .proposers) (u .acceptors) (u .learners) (u .slots)) (step z s e)) (sym (same-state x)) (agrees z s e h)
+      subst (λ (u : State). Agrees (stepOf z e (u .proposers) (u .acceptors) (u .learners) (u .slots)) (step z s e)) (sym (same-state x)) (step-agrees z s e h)
 
   -- one event more
   onward-ends : (s : State) (es : List Event) (e : Event) (log : List ℕ) (n : ℕ) (r : Ran) → recordsInRange z s ≡ true → length es ≡ n → 2 * suc n ≤ length log
@@ -175,13 +173,13 @@ module _ (z : Sizes) (ps : List Proposer) (acs : List Acceptor) (ls : List Learn
   pub run-drives : Drives z ps acs ls t ns log (if eqb (runNo z (lent ps acs ls t) ns n log) 0 then n else 0)
   run-drives = run-drives-by (recordsInRange z (lent ps acs ls t)) (hasNumbers ns n log) refl refl
 
-module _ (agrees : StepAgrees) (z : Sizes) (ps : List Proposer) (acs : List Acceptor) (ls : List Learner) (t : List Message) (ns : List ℕ) (n : ℕ) (log : List ℕ) where
+module _ (z : Sizes) (ps : List Proposer) (acs : List Acceptor) (ls : List Learner) (t : List Message) (ns : List ℕ) (n : ℕ) (log : List ℕ) where
   run-ends-by : (u v : Bool) → recordsInRange z (lent ps acs ls t) ≡ u → hasNumbers ns n log ≡ v
       → Ends (driven z ps acs ls t ns log (if eqb (1 unless u ⨾ 8 unless v ⨾ ok) 0 then n else 0))
       (if eqb (1 unless u ⨾ 8 unless v ⨾ ok) 0 then run z (lent ps acs ls t) (eventsIn ns n) else lent ps acs ls t)
       (if eqb (1 unless u ⨾ 8 unless v ⨾ ok) 0 then logged (answers z (lent ps acs ls t) (eventsIn ns n)) log else log)
   unfolding ranTo
-  run-ends-by true true h k = driven-ends agrees z ps acs ls t ns log h n (numbers-there ns n log k .1)
+  run-ends-by true true h k = driven-ends z ps acs ls t ns log h n (numbers-there ns n log k .1)
   run-ends-by true false h k = none-ends (driven z ps acs ls t ns log 0)
   run-ends-by false v h k = none-ends (driven z ps acs ls t ns log 0)
 
@@ -197,18 +195,14 @@ module _ (z : Sizes) (e : Event) (ps : List Proposer) (acs : List Acceptor) (ls 
 
   pub step-repeats : Repeats z ps acs ls t (if eqb (1 unless recordsInRange z (lent ps acs ls t) ⨾ ok) 0 then 1 else 0)
   step-repeats = step-repeats-by (recordsInRange z (lent ps acs ls t)) refl
-
   -- the first test refuses
-  refused-one : recordsInRange z (lent ps acs ls t) ≡ false → step z (lent ps acs ls t) e ≡ record { answer = Refused 1; state = lent ps acs ls t }
-  unfolding stepNo
-  refused-one h = refusal-keeps z (lent ps acs ls t) e 0 (rw h)
 
-module _ (agrees : StepAgrees) (z : Sizes) (e : Event) (ps : List Proposer) (acs : List Acceptor) (ls : List Learner) (t : List Message) where
+module _ (z : Sizes) (e : Event) (ps : List Proposer) (acs : List Acceptor) (ls : List Learner) (t : List Message) where
   step-once-by : (u : Bool) → recordsInRange z (lent ps acs ls t) ≡ u
       → Agrees (timesOf z e ps acs ls t (if eqb (1 unless u ⨾ ok) 0 then 1 else 0)) (step z (lent ps acs ls t) e)
   unfolding timesFrom
-  step-once-by true h = agrees z (lent ps acs ls t) e h
-  step-once-by false h = subst (Agrees (timesOf z e ps acs ls t 0)) (sym (refused-one z e ps acs ls t h)) (record { answer = refl; proposers = refl; acceptors = refl; learners = refl; slots = refl })
+  step-once-by true h = step-agrees z (lent ps acs ls t) e h
+  step-once-by false h = subst (Agrees (timesOf z e ps acs ls t 0)) (sym (step-refused z (lent ps acs ls t) e h)) (record { answer = refl; proposers = refl; acceptors = refl; learners = refl; slots = refl })
 
   pub step-once : Agrees (timesOf z e ps acs ls t (if eqb (1 unless recordsInRange z (lent ps acs ls t) ⨾ ok) 0 then 1 else 0)) (step z (lent ps acs ls t) e)
   step-once = step-once-by (recordsInRange z (lent ps acs ls t)) refl

@@ -14,6 +14,7 @@ pub mod EventLaws
 pub mod StepLaws
 pub mod RunLaws
 pub mod Longer
+pub mod CallLaws
 pub mod Histories
 pub mod Storing
 pub mod Testing

@@ -24,10 +24,6 @@ use Rattle.machine.specs.Running.{eventsIn, saidNo, saidSet}
 abbrev pub lent : List Proposer → List Acceptor → List Learner → List Message → State
 lent ps acs ls t = record { proposers = ps; acceptors = acs; learners = ls; slots = t }
 
--- how many there are of each
-abbrev pub lengthsAre : Sizes → ℕ → ℕ → ℕ → ℕ → Bool
-lengthsAre z p a l m = eqb p (z .proposers) && eqb a (z .acceptors) && eqb l (z .learners) && eqb m (z .slots)
-
 -- ---- fresh: 1 for a size out of its range or another number of records or slots
 
 abbrev pub freshNo : Sizes → State → ℕ
@@ -90,3 +86,21 @@ RunCall z s ns n log r t log′ =
 
 abbrev pub WholeRunCall : Sizes → List ℕ → ℕ → List ℕ → ℕ → List ℕ → Type 0
 WholeRunCall z ns n log r log′ = (r ≡ wholeRunNo z ns n log) × (log′ ≡ logAfterWholeRun z ns n log)
+
+-- ---- how the calls test and count
+
+-- how many there are of each
+abbrev pub lengthsAre : Sizes → ℕ → ℕ → ℕ → ℕ → Bool
+lengthsAre z p a l m = eqb p (z .proposers) && eqb a (z .acceptors) && eqb l (z .learners) && eqb m (z .slots)
+
+-- 1 where the sizes and lengths, or the records, are out of range
+abbrev pub soundOf : Bool → Bool → Bool → Bool → Bool → ℕ
+soundOf sized p a l m = 1 unless (sized && p && a && l && m) ⨾ ok
+
+-- 1 where a size, or how many there are of each, is out of range
+abbrev pub sizedNo : Sizes → ℕ → ℕ → ℕ → ℕ → ℕ
+sizedNo z p a l m = 1 unless (sizesInRange z && lengthsAre z p a l m) ⨾ ok
+
+-- so many where nothing is refused, and otherwise none
+abbrev pub turnsOf : ℕ → ℕ → ℕ
+turnsOf k n = if eqb k 0 then n else 0

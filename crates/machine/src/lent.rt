@@ -1,8 +1,10 @@
-// The records that a caller lends: one read or stored, and the table of messages searched, posted to and freed.
+// The records that a caller lends: one read or stored, all tested, the first of them made fresh; and the table of messages searched and posted to.
 ghost use mathlib.Core.Path.{_≡_};
-ghost use Prim.Native.Nat.{_<_};
-ghost use lib.ListN.{length, getD, set, replicate};
+ghost use mathlib.Core.List.{_++_};
+ghost use Prim.Native.Nat.{_<_, _≤_};
+ghost use lib.ListN.{length, getD, set, drop, replicate};
 ghost use Rattle.model.specs.Records.{freshProposer, freshAcceptor, freshLearner, freeSlot};
+ghost use Rattle.model.specs.Ranges.{all, proposerInRange, acceptorInRange, learnerInRange, messageInRange};
 ghost use Rattle.model.specs.Table.{post};
 ghost use Rattle.machine.specs.Sending.{itemsOf, lacking};
 ghost use Rattle.machine.specs.Slots.{isTaken, leftAfter, searching, lowestFrom, FreeFrom, Ready};
@@ -14,6 +16,7 @@ use model::Acceptor;
 use model::Learner;
 use model::Message;
 use model::Proposer;
+use sizes::Sizes;
 
 pub fn load_proposer(t: &[Proposer], i: usize) -> Proposer
     requires { ⌜ i < length (now t) ⌝ }
@@ -69,6 +72,113 @@ pub fn store_message(t: &mut [Message], i: usize, m: Message)
     ensures { λ _. ⌜ now (t .exit) ≡ set (now (t .entry)) i m ⌝ }
 {
     t[i] = m;
+}
+
+// Whether every record is in range, for a run of these sizes.
+pub fn proposers_in_range(t: &[Proposer], z: Sizes) -> bool
+    ensures { λ r. ⌜ r ≡ all (proposerInRange z) (now (t .entry)) ⌝ }
+{
+    let mut sound = true;
+    let mut i: usize = 0;
+    while i < t.len() {
+        let x = t[i];
+        let one = x.in_range(z);
+        sound = both(sound, one);
+        i += 1;
+    }
+    sound
+}
+
+pub fn acceptors_in_range(t: &[Acceptor], z: Sizes) -> bool
+    ensures { λ r. ⌜ r ≡ all (acceptorInRange z) (now (t .entry)) ⌝ }
+{
+    let mut sound = true;
+    let mut i: usize = 0;
+    while i < t.len() {
+        let x = t[i];
+        let one = x.in_range(z);
+        sound = both(sound, one);
+        i += 1;
+    }
+    sound
+}
+
+pub fn learners_in_range(t: &[Learner], z: Sizes) -> bool
+    ensures { λ r. ⌜ r ≡ all (learnerInRange z) (now (t .entry)) ⌝ }
+{
+    let mut sound = true;
+    let mut i: usize = 0;
+    while i < t.len() {
+        let x = t[i];
+        let one = x.in_range(z);
+        sound = both(sound, one);
+        i += 1;
+    }
+    sound
+}
+
+pub fn messages_in_range(t: &[Message], z: Sizes) -> bool
+    ensures { λ r. ⌜ r ≡ all (messageInRange z) (now (t .entry)) ⌝ }
+{
+    let mut sound = true;
+    let mut i: usize = 0;
+    while i < t.len() {
+        let x = t[i];
+        let one = x.in_range(z);
+        sound = both(sound, one);
+        i += 1;
+    }
+    sound
+}
+
+// The first `n` fresh.
+pub fn fill_proposers(t: &mut [Proposer], n: usize)
+    requires { ⌜ n ≤ length (now t) ⌝ }
+    ensures { λ _. ⌜ now (t .exit) ≡ replicate n freshProposer ++ drop n (now (t .entry)) ⌝ }
+{
+    let x = Proposer::fresh();
+    let mut i: usize = 0;
+    while i < n {
+        t[i] = x;
+        i += 1;
+    }
+}
+
+pub fn fill_acceptors(t: &mut [Acceptor], n: usize)
+    requires { ⌜ n ≤ length (now t) ⌝ }
+    ensures { λ _. ⌜ now (t .exit) ≡ replicate n freshAcceptor ++ drop n (now (t .entry)) ⌝ }
+{
+    let x = Acceptor::fresh();
+    let mut i: usize = 0;
+    while i < n {
+        t[i] = x;
+        i += 1;
+    }
+}
+
+pub fn fill_learners(t: &mut [Learner], n: usize)
+    requires { ⌜ n ≤ length (now t) ⌝ }
+    ensures { λ _. ⌜ now (t .exit) ≡ replicate n freshLearner ++ drop n (now (t .entry)) ⌝ }
+{
+    let x = Learner::fresh();
+    let mut i: usize = 0;
+    while i < n {
+        t[i] = x;
+        i += 1;
+    }
+}
+
+// The first `n` slots free.
+pub fn fill_messages(t: &mut [Message], n: usize)
+    requires { ⌜ n ≤ length (now t) ⌝ }
+    ensures { λ _. ⌜ now (t .exit) ≡ replicate n freeSlot ++ drop n (now (t .entry)) ⌝ }
+{
+    let x = Message::free();
+    let mut i: usize = 0;
+    while i < n {
+        t[i] = x;
+        i += 1;
+    }
 }
 
 // Of `left` free slots still to be found, those left after a slot.
@@ -136,17 +246,5 @@ pub fn send_all(t: &mut [Message], s: Send)
         store_message(t, k, m);
         at = k + 1;
         j += 1;
-    }
-}
-
-// Every slot free.
-pub fn free_all(t: &mut [Message])
-    ensures { λ _. ⌜ now (t .exit) ≡ replicate (length (now (t .entry))) freeSlot ⌝ }
-{
-    let x = Message::free();
-    let mut i: usize = 0;
-    while i < t.len() {
-        t[i] = x;
-        i += 1;
     }
 }

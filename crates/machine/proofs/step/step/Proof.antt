@@ -1,4 +1,4 @@
--- `step` meets its contract: a walk of its MIR. Each call is one step: by value, or on one of the four slices, which is lent and comes back. There is no branch. tools_machine/step.py writes this file.
+-- `step` meets its contract: a walk of its MIR. Each call is one step: by value, or on one of the four slices, which is lent and comes back. There is no branch. tools/machine_walks/step.py writes this file.
 -- Assumes nothing.
 use mathlib.Core.Path.{_≡_, refl}
 use Prim.Native.Nat.{ℕ, _<_}

@@ -1,4 +1,4 @@
--- `free_all` meets its contract: `Filling.antt` at `Message`.
+-- `fill_messages` meets its contract: `Filling.antt` at `Message`.
 use contract.Running.{givenOf, tables, tablesOf}
 use denote.Triple.Spec.{tripleOf}
 use denote.Triple.Table.{entered, cited}
@@ -10,14 +10,14 @@ use Rattle.model.proofs.Message.free as made
 use Rattle.model.proofs.Message.free.Symbol as made-def
 use Rattle.model.proofs.Message.free.Symbol.{name as #made}
 use Rattle.model.proofs.Message.free.Met as made-thm
-use Rattle.machine.proofs.lent.free_all.Key.{name}
-use Rattle.machine.proofs.lent.free_all as this
-use Rattle.machine.proofs.lent.free_all.Statement.{statement}
-use Rattle.machine.proofs.lent.free_all.Code as code
+use Rattle.machine.proofs.lent.fill_messages.Key.{name}
+use Rattle.machine.proofs.lent.fill_messages as this
+use Rattle.machine.proofs.lent.fill_messages.Statement.{statement}
+use Rattle.machine.proofs.lent.fill_messages.Code as code
 
-pub free-all-spec : {M : Type 1} → statement M
+pub fill-messages-spec : {M : Type 1} → statement M
 unfolding code.routine tablesOf
-free-all-spec 𝓤 H 𝓜 𝓖 𝓡 =
+fill-messages-spec 𝓤 H 𝓜 𝓖 𝓡 =
     entered 𝓤 H (tripleOf 𝓤 H (𝓖 .A) this.signature (this.spec 𝓤 H (𝓖 .A) (𝓜 .mem) (𝓡 .run))) (tables 𝓤 H 𝓜 𝓡 code.env .C) (tables 𝓤 H 𝓜 𝓡 code.env .Λ) name code.function (code.unfolded 𝓤 H 𝓜 𝓡)
     (Filling.meets T.the-type T′.the-laws T′.the-plain freeSlot tt #made 𝓤 H (𝓖 .A) (givenOf 𝓤 H 𝓜 𝓖) (tablesOf 𝓤 H 𝓜 (tables 𝓤 H 𝓜 𝓡 code.env))
     (cited 𝓤 H (tripleOf 𝓤 H (𝓖 .A) made.signature (made.spec 𝓤 H (𝓖 .A) (𝓜 .mem) (𝓡 .run))) 𝓜 𝓡 code.env #made made-def.routine code.calls-model·Message·free (made-thm.met 𝓤 H 𝓜 𝓖 𝓡)))

@@ -1,10 +1,12 @@
 pub mod Again
 pub mod Bounds
 pub mod Called
+pub mod Calling
 pub mod Dispatch
 pub mod Filling
 pub mod LentCalls
 pub mod Loading
+pub mod Locals
 pub mod Posting
 pub mod Searching
 pub mod Sendable
@@ -15,6 +17,8 @@ pub mod StepLaws
 pub mod RunLaws
 pub mod Longer
 pub mod CallLaws
+pub mod StepCalls
+pub mod Rounds
 pub mod Histories
 pub mod Storing
 pub mod Testing

@@ -1,5 +1,5 @@
 -- A step and a run on more records and slots than the run's sizes say: the first of them go as if they were all, and what stands behind them stays, where each slot there is taken.
-use mathlib.Core.Path.{_≡_, refl, sym, _∙_, ap}
+use mathlib.Core.Path.{_≡_, refl, sym, _∙_, ap, subst}
 use mathlib.Core.Bool.{Bool, true, false}
 use mathlib.Core.List.{List, [], _∷_, _++_}
 use Prim.Native.Nat.{ℕ, zero, suc, _+_, _*_, _-_, _≤_}
@@ -32,7 +32,7 @@ use Rattle.machine.specs.Slots.{isTaken}
 use Rattle.machine.specs.Change.{learnerAfter, slotAfter}
 use Rattle.machine.specs.Stepping.{within, partyOf, decideOf, finishOf, replyOf, Fits, Left, theMessage, stepOf}
 use Rattle.machine.specs.Running.{eventOf, eventsIn, noted, Ran, onward, ranTo, driven, Drives}
-use Rattle.machine.specs.Calls.{logged, hasNumbers, wholeRunNo, logAfterWholeRun}
+use Rattle.machine.specs.Calls.{logged, hasNumbers, wholeNo, wholeRunNo, logAfterWholeRun, turnsOf}
 use Rattle.machine.proofs.Readiness.{proposer-there, acceptor-there, learner-there, slot-there}
 use Rattle.machine.proofs.RunLaws.{driven-ends, in-range-fits, numbers-there}
 
@@ -210,17 +210,17 @@ first-fits z ps acs ls t h x =
     let m = longer-enough (z .slots) (fresh z .slots) (x .moreSlots) t (fit .1 .1 .1 .1) (x .slots) in
     (h, (p, (a, (l, m))))
 
-module _ (z : Sizes) (ps : List Proposer) (acs : List Acceptor) (ls : List Learner) (t : List Message) (first : sizesInRange z ≡ true → FreshFirst z ps acs ls t) (ns : List ℕ) (n : ℕ) (log : List ℕ) where
+module _ (z : Sizes) (ps : List Proposer) (acs : List Acceptor) (ls : List Learner) (t : List Message) (ns : List ℕ) (n : ℕ) (log : List ℕ) (first : sizesInRange z ≡ true → hasNumbers ns n log ≡ true → FreshFirst z ps acs ls t) where
   whole-run-drives-by : (u v : Bool) → sizesInRange z ≡ u → hasNumbers ns n log ≡ v
       → Drives z ps acs ls t ns log (if eqb (1 unless u ⨾ 8 unless v ⨾ ok) 0 then n else 0)
-  whole-run-drives-by true true h k some = (first-fits z ps acs ls t h (first h), numbers-there ns n log k)
+  whole-run-drives-by true true h k some = (first-fits z ps acs ls t h (first h k), numbers-there ns n log k)
   whole-run-drives-by true false h k some = absurd (not-suc-le-zero some)
   whole-run-drives-by false v h k some = absurd (not-suc-le-zero some)
 
   pub whole-run-drives : Drives z ps acs ls t ns log (if eqb (wholeRunNo z ns n log) 0 then n else 0)
   whole-run-drives = whole-run-drives-by (sizesInRange z) (hasNumbers ns n log) refl refl
 
-module _ (z : Sizes) (ps : List Proposer) (acs : List Acceptor) (ls : List Learner) (t : List Message) (first : sizesInRange z ≡ true → FreshFirst z ps acs ls t) (ns : List ℕ) (n : ℕ) (log : List ℕ) where
+module _ (z : Sizes) (ps : List Proposer) (acs : List Acceptor) (ls : List Learner) (t : List Message) (ns : List ℕ) (n : ℕ) (log : List ℕ) (first : sizesInRange z ≡ true → hasNumbers ns n log ≡ true → FreshFirst z ps acs ls t) where
   -- all n events
   first-log : sizesInRange z ≡ true → FreshFirst z ps acs ls t → 2 * n ≤ length log → driven z ps acs ls t ns log n .log ≡ logged (answers z (fresh z) (eventsIn ns n)) log
   first-log h x room =
@@ -232,7 +232,7 @@ module _ (z : Sizes) (ps : List Proposer) (acs : List Acceptor) (ls : List Learn
       → driven z ps acs ls t ns log (if eqb (1 unless u ⨾ 8 unless v ⨾ ok) 0 then n else 0) .log
       ≡ (if eqb (1 unless u ⨾ 8 unless v ⨾ ok) 0 then logged (answers z (fresh z) (eventsIn ns n)) log else log)
   unfolding ranTo
-  whole-run-log-by true true h k = first-log h (first h) (numbers-there ns n log k .1)
+  whole-run-log-by true true h k = first-log h (first h k) (numbers-there ns n log k .1)
   whole-run-log-by true false h k = refl
   whole-run-log-by false v h k = refl
 
@@ -261,6 +261,7 @@ record AtMost (z : Sizes) : Type 0 where
   proposers : z .proposers ≤ 8
   acceptors : z .acceptors ≤ 7
   learners : z .learners ≤ 8
+  slots : z .slots ≤ 512
 
 at-most : (z : Sizes) → sizesInRange z ≡ true → AtMost z
 unfolding sizesInRange mostAcceptors
@@ -268,10 +269,11 @@ at-most z h = record {
   proposers = search (and-l, and-r, leb-true) depth 9;
   acceptors = search (and-l, and-r, leb-true) depth 9;
   learners = search (and-l, and-r, leb-true) depth 9;
+  slots = search (and-l, and-r, leb-true) depth 9;
 }
 
 -- 8 proposers, 7 acceptors and 8 learners, all fresh, and n slots, of which the first M are free and the others hold a message x
-pub most-fresh-first : (z : Sizes) (n : ℕ) (x : Message) → isTaken x ≡ true → sizesInRange z ≡ true
+most-fresh-first : (z : Sizes) (n : ℕ) (x : Message) → isTaken x ≡ true → sizesInRange z ≡ true
     → FreshFirst z (replicate 8 freshProposer) (replicate 7 freshAcceptor) (replicate 8 freshLearner) (replicate (z .slots) freeSlot ++ drop (z .slots) (replicate n x))
 unfolding fresh
 most-fresh-first z n x tk h =
@@ -287,3 +289,20 @@ most-fresh-first z n x tk h =
       slots = refl;
       taken = taken-drop (z .slots) (replicate n x) (taken-copies x tk n);
     }
+
+-- ---- the slots of a whole run: where nothing is refused the first M are free, and the others hold a message x
+
+module _ (z : Sizes) (ns : List ℕ) (n : ℕ) (log : List ℕ) where
+  slots-by : (u v : Bool) → sizesInRange z ≡ u → turnsOf (wholeNo u v) (z .slots) ≤ 512
+  slots-by true true h = at-most z h .slots
+  slots-by true false h = omega arith
+  slots-by false v h = omega arith
+
+  pub slots-few : turnsOf (wholeRunNo z ns n log) (z .slots) ≤ 512
+  slots-few = slots-by (sizesInRange z) (hasNumbers ns n log) refl
+
+  pub whole-run-first : (m : ℕ) (x : Message) → isTaken x ≡ true → sizesInRange z ≡ true → hasNumbers ns n log ≡ true
+      → FreshFirst z (replicate 8 freshProposer) (replicate 7 freshAcceptor) (replicate 8 freshLearner) (replicate (turnsOf (wholeRunNo z ns n log) (z .slots)) freeSlot ++ drop (turnsOf (wholeRunNo z ns n log) (z .slots)) (replicate m x))
+  whole-run-first m x tk h k =
+      subst (λ (s : ℕ). FreshFirst z (replicate 8 freshProposer) (replicate 7 freshAcceptor) (replicate 8 freshLearner) (replicate s freeSlot ++ drop s (replicate m x)))
+      (sym (λ i. turnsOf (wholeNo (h i) (k i)) (z .slots))) (most-fresh-first z m x tk h)

@@ -43,9 +43,12 @@ said (w ∷ ws) = saidNo w ∷ saidSet w ∷ said ws
 abbrev pub logged : List Answer → List ℕ → List ℕ
 logged ws log = said ws ++ drop (2 * length ws) log
 
--- there are numbers for n events, and room for their answers
+-- there are numbers for n events, and room for their answers: of how many numbers there are, and how long the log is
+abbrev pub enoughOf : ℕ → ℕ → ℕ → Bool
+enoughOf e l n = leb (3 * n) e && leb (2 * n) l
+
 abbrev pub hasNumbers : List ℕ → ℕ → List ℕ → Bool
-hasNumbers ns n log = leb (3 * n) (length ns) && leb (2 * n) (length log)
+hasNumbers ns n log = enoughOf (length ns) (length log) n
 
 abbrev pub runNo : Sizes → State → List ℕ → ℕ → List ℕ → ℕ
 runNo z s ns n log = 1 unless recordsInRange z s ⨾ 8 unless hasNumbers ns n log ⨾ ok
@@ -58,8 +61,12 @@ logAfterRun z s ns n log = if eqb (runNo z s ns n log) 0 then logged (answers z 
 
 -- ---- a run from fresh, on records of its own
 
+-- the refusal, by its tests
+abbrev pub wholeNo : Bool → Bool → ℕ
+wholeNo sized enough = 1 unless sized ⨾ 8 unless enough ⨾ ok
+
 abbrev pub wholeRunNo : Sizes → List ℕ → ℕ → List ℕ → ℕ
-wholeRunNo z ns n log = 1 unless sizesInRange z ⨾ 8 unless hasNumbers ns n log ⨾ ok
+wholeRunNo z ns n log = wholeNo (sizesInRange z) (hasNumbers ns n log)
 
 abbrev pub logAfterWholeRun : Sizes → List ℕ → ℕ → List ℕ → List ℕ
 logAfterWholeRun z ns n log = if eqb (wholeRunNo z ns n log) 0 then logged (answers z (fresh z) (eventsIn ns n)) log else log
@@ -96,6 +103,10 @@ lengthsAre z p a l m = eqb p (z .proposers) && eqb a (z .acceptors) && eqb l (z 
 -- 1 where the sizes and lengths, or the records, are out of range
 abbrev pub soundOf : Bool → Bool → Bool → Bool → Bool → ℕ
 soundOf sized p a l m = 1 unless (sized && p && a && l && m) ⨾ ok
+
+-- and then 8 where there is not enough for the events
+abbrev pub soundRunOf : Bool → Bool → Bool → Bool → Bool → Bool → ℕ
+soundRunOf sized p a l m enough = 1 unless (sized && p && a && l && m) ⨾ 8 unless enough ⨾ ok
 
 -- 1 where a size, or how many there are of each, is out of range
 abbrev pub sizedNo : Sizes → ℕ → ℕ → ℕ → ℕ → ℕ

@@ -6,6 +6,7 @@ use Prim.Native.Nat.{ℕ, suc, _+_, _-_, _<_}
 use lib.Dec.{ltb}
 use lib.ListN.{length, drop}
 use Rattle.choice.specs.Choice.{if_then_else_}
+use Rattle.sets.specs.Scans.{empty}
 use Rattle.model.specs.Table.{isFree}
 use Rattle.model.specs.Ranges.{all}
 use Rattle.model.specs.declared.Message.{Message}
@@ -15,6 +16,17 @@ use Rattle.machine.specs.Sending.{itemsOf, lacking}
 -- a message takes its slot
 abbrev pub isTaken : Message → Bool
 isTaken m = not (isFree m)
+
+-- a slot that no run uses: it is never free
+abbrev pub takenSlot : Message
+takenSlot = record {
+  kind = 1;
+  addressee = 0;
+  proposer = record { 0 = 0 };
+  acceptor = record { 0 = 0 };
+  number = 0;
+  set = empty;
+}
 
 -- of k free slots still to be found, those left after a slot
 abbrev pub leftAfter : Message → ℕ → ℕ

@@ -1,18 +1,29 @@
-// The calls on records that a caller lends: fresh, and one acceptor's answer to a proposal.
+// The calls on records that a caller lends: fresh, one acceptor's answer to a proposal, one step, a run; and a whole run from fresh on records of its own. Each tests all that it is given.
 ghost use mathlib.Core.Path.{_≡_};
 ghost use mathlib.Core.Bool.{_&&_};
 ghost use Rattle.sizes.specs.Sizes.{sizesInRange};
 ghost use Rattle.model.specs.Rules.{accepts, answering};
-ghost use Rattle.machine.specs.Calls.{lent, FreshCall, lengthsAre, soundOf, turnsOf, sizedNo};
+ghost use Rattle.machine.specs.Slots.{takenSlot};
+ghost use Rattle.machine.specs.Calls.{lent, FreshCall, StepCall, RunCall, WholeRunCall, lengthsAre, soundOf, soundRunOf, turnsOf, sizedNo, enoughOf, wholeNo};
+use crate::lent::acceptors_in_range;
 use crate::lent::fill_acceptors;
 use crate::lent::fill_learners;
 use crate::lent::fill_messages;
 use crate::lent::fill_proposers;
+use crate::lent::learners_in_range;
+use crate::lent::messages_in_range;
+use crate::lent::proposers_in_range;
+use crate::running::drive;
+use crate::running::repeat;
 use choice::both;
 use model::Acceptor;
+use model::Answer;
+use model::Event;
 use model::Learner;
 use model::Message;
 use model::Proposer;
+use sets::AcceptorId;
+use sets::ProposerId;
 use sets::scans::Scans;
 use sizes::Sizes;
 
@@ -113,4 +124,116 @@ pub fn answer_proposal(acceptor: &mut Acceptor, set: Scans) -> bool
     let accepted = before.accepts(set);
     *acceptor = before.answer(set);
     accepted
+}
+
+// One event, where the sizes, the lengths and all records are in range; otherwise a refusal with 1 and all as it was.
+pub fn single_step(
+    z: Sizes,
+    ps: &mut [Proposer],
+    acs: &mut [Acceptor],
+    ls: &mut [Learner],
+    t: &mut [Message],
+    e: Event,
+) -> Answer
+    ensures { λ r. ⌜ StepCall z (lent (now (ps .entry)) (now (acs .entry)) (now (ls .entry)) (now (t .entry))) e r (lent (now (ps .exit)) (now (acs .exit)) (now (ls .exit)) (now (t .exit))) ⌝ }
+{
+    let sized = sized(z, ps.len(), acs.len(), ls.len(), t.len());
+    let p = proposers_in_range(ps, z);
+    let a = acceptors_in_range(acs, z);
+    let l = learners_in_range(ls, z);
+    let m = messages_in_range(t, z);
+    let refusal = sound_no(sized, p, a, l, m);
+    let n = once_if(refusal);
+    repeat(z, ps, acs, ls, t, e, n)
+}
+
+// There are numbers for `n` events, three for each, and room for their answers, two for each.
+fn enough(numbers: usize, room: usize, n: u16) -> bool
+    ensures { λ r. ⌜ r ≡ enoughOf numbers room n ⌝ }
+{
+    let n = n as usize;
+    both(3 * n <= numbers, 2 * n <= room)
+}
+
+// 1 where the sizes and lengths, or the records, are out of range, and 8 where there is not enough for the events.
+fn run_no(sized: bool, p: bool, a: bool, l: bool, m: bool, enough: bool) -> u8
+    ensures { λ r. ⌜ r ≡ soundRunOf sized p a l m enough ⌝ }
+{
+    if both(both(both(both(sized, p), a), l), m) {
+        if enough { 0 } else { 8 }
+    } else {
+        1
+    }
+}
+
+// The first `n` events of a schedule's numbers, and their answers into the log; or a refusal and all as it was.
+#[no_mangle]
+pub extern "C" fn machine_run(
+    z: Sizes,
+    ps: &mut [Proposer],
+    acs: &mut [Acceptor],
+    ls: &mut [Learner],
+    t: &mut [Message],
+    events: &[u64],
+    log: &mut [u64],
+    n: u16,
+) -> u8
+    ensures { λ r. ⌜ RunCall z (lent (now (ps .entry)) (now (acs .entry)) (now (ls .entry)) (now (t .entry))) (now (events .entry)) n (now (log .entry)) r (lent (now (ps .exit)) (now (acs .exit)) (now (ls .exit)) (now (t .exit))) (now (log .exit)) ⌝ }
+{
+    let sized = sized(z, ps.len(), acs.len(), ls.len(), t.len());
+    let p = proposers_in_range(ps, z);
+    let a = acceptors_in_range(acs, z);
+    let l = learners_in_range(ls, z);
+    let m = messages_in_range(t, z);
+    let enough = enough(events.len(), log.len(), n);
+    let refusal = run_no(sized, p, a, l, m, enough);
+    let k = count_if(refusal, n);
+    drive(z, ps, acs, ls, t, events, log, k);
+    refusal
+}
+
+// 1 where a size is out of range, and 8 where there is not enough for the events.
+fn whole_run_no(z: Sizes, enough: bool) -> u8
+    ensures { λ r. ⌜ r ≡ wholeNo (sizesInRange z) enough ⌝ }
+{
+    if z.in_range() {
+        if enough { 0 } else { 8 }
+    } else {
+        1
+    }
+}
+
+// A slot that is not free.
+fn taken_slot() -> Message
+    ensures { λ r. ⌜ r ≡ takenSlot ⌝ }
+{
+    Message {
+        kind: 1,
+        addressee: 0,
+        proposer: ProposerId(0),
+        acceptor: AcceptorId(0),
+        number: 0,
+        set: Scans::empty(),
+    }
+}
+
+// A run of `n` events from fresh, on records of its own, as many as any run has. Slots past the run's number are taken. The answers go into the log, two numbers each; a refusal leaves the log as it was.
+pub fn whole_run(z: Sizes, events: &[u64], log: &mut [u64], n: u16) -> u8
+    ensures { λ r. ⌜ WholeRunCall z (now (events .entry)) n (now (log .entry)) r (now (log .exit)) ⌝ }
+{
+    let enough = enough(events.len(), log.len(), n);
+    let refusal = whole_run_no(z, enough);
+    let turns = count_if(refusal, n);
+    let slots = slots_if(refusal, z);
+    let p = Proposer::fresh();
+    let mut ps = [p; 8];
+    let a = Acceptor::fresh();
+    let mut acs = [a; 7];
+    let l = Learner::fresh();
+    let mut ls = [l; 8];
+    let m = taken_slot();
+    let mut t = [m; 512];
+    fill_messages(&mut t, slots);
+    drive(z, &mut ps, &mut acs, &mut ls, &mut t, events, log, turns);
+    refusal
 }

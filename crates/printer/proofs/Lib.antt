@@ -1,0 +1,6 @@
+-- What the proofs of several functions cite, and the laws of the texts and of the log.
+pub mod Adding
+pub mod Lengths
+pub mod Events
+pub mod Longest
+pub mod ReadBack

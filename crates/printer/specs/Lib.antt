@@ -1,0 +1,4 @@
+pub mod Puts
+pub mod Log
+pub mod Text
+pub mod Printing

@@ -1,0 +1,249 @@
+// The text of a run: what the run printer prints.
+ghost use mathlib.Core.Path.{_≡_};
+ghost use mathlib.Core.List.{_++_};
+ghost use Prim.Native.Nat.{_+_, _*_, _≤_, _<_};
+ghost use lib.Dec.{eqb};
+ghost use lib.ListN.{length};
+ghost use Rattle.choice.specs.Choice.{if_then_else_};
+ghost use Rattle.text.specs.Words.{bytes};
+ghost use Rattle.text.specs.Digits.{decimal, hex};
+ghost use Rattle.model.specs.Step.{answerNo};
+ghost use Rattle.printer.specs.Puts.{Puts};
+ghost use Rattle.printer.specs.Log.{answerOf, answerAt, answersIn};
+ghost use Rattle.printer.specs.Text.{refusedLine, setLine, lines, linesFrom, okCount, endWith, runText, refusedText, putAnswer, afterPut};
+use model::Answer;
+use numbers::Refusal;
+use numbers::Written;
+use sets::LearnerId;
+use sets::ProposerId;
+use sets::scans::Scans;
+
+// What two numbers of a log say.
+fn answer_of(code: u64, set: u64) -> Answer
+    ensures { λ r. ⌜ r ≡ answerOf code set ⌝ }
+{
+    if code == 0 {
+        return Answer::Ok;
+    }
+    if code < 256 {
+        return Answer::Refused(code as u8);
+    }
+    let party = (code % 256) as u8;
+    let scans = Scans { bits: set };
+    if code < 512 {
+        return Answer::Learnt {
+            learner: LearnerId(party),
+            set: scans,
+        };
+    }
+    Answer::Decided {
+        proposer: ProposerId(party),
+        set: scans,
+    }
+}
+
+// Answer k of a log.
+fn answer_at(log: &[u64], k: usize) -> Answer
+    requires { ⌜ 2 * k + 1 < length (now log) ⌝ }
+    ensures { λ r. ⌜ r ≡ answerAt (now (log .entry)) k ⌝ }
+{
+    answer_of(log[2 * k], log[2 * k + 1])
+}
+
+// How many bytes the lines of an event take: its numbers, 16 digits of a set, and the words with their spaces and line ends.
+fn lines_length(place: u64, answer: Answer) -> usize
+    ensures { λ r. ⌜ r ≡ length (lines place answer) ⌝ }
+{
+    let width = text::decimal_width(place);
+    match answer {
+        Answer::Ok => width + 4,
+        Answer::Learnt { learner, set: _ } => 2 * width
+            + 30
+            + text::decimal_width(learner.0 as u64),
+        Answer::Decided { proposer, set: _ } => 2 * width
+            + 31
+            + text::decimal_width(proposer.0 as u64),
+        Answer::Refused(no) => width + 10 + text::decimal_width(no as u64),
+    }
+}
+
+// How many bytes the last line takes: its numbers, the word, three spaces and the line end.
+fn end_line_length(events: u64, ok: u64, refused: u64) -> usize
+    ensures { λ r. ⌜ r ≡ length (endWith events ok refused) ⌝ }
+{
+    7 + text::decimal_width(events) + text::decimal_width(ok) + text::decimal_width(refused)
+}
+
+// How much an answer adds to the count of those that are ok.
+fn ok_one(answer: Answer) -> u64
+    ensures { λ r. ⌜ r ≡ (if eqb (answerNo answer) 0 then 1 else 0) ⌝ }
+{
+    match answer {
+        Answer::Ok => 1,
+        Answer::Learnt { learner: _, set: _ } => 1,
+        Answer::Decided {
+            proposer: _,
+            set: _,
+        } => 1,
+        Answer::Refused(no) => {
+            if no == 0 {
+                return 1;
+            }
+            0
+        }
+    }
+}
+
+// How many bytes the lines of a run take, and how many of its events are ok.
+struct Tally {
+    length: usize,
+    ok: u64,
+}
+
+fn count_events(log: &[u64], n: usize) -> Tally
+    requires { ⌜ (2 * n ≤ length (now log)) × (n ≤ 65535) ⌝ }
+    ensures { λ r. ⌜ (r .length ≡ length (linesFrom 1 (answersIn (now (log .entry)) n))) × (r .ok ≡ okCount (answersIn (now (log .entry)) n)) ⌝ }
+{
+    let mut length: usize = 0;
+    let mut ok: u64 = 0;
+    let mut k: usize = 0;
+    while k < n {
+        let answer = answer_at(log, k);
+        length += lines_length((k + 1) as u64, answer);
+        ok += ok_one(answer);
+        k += 1;
+    }
+    Tally { length, ok }
+}
+
+// Each `add_` function puts a text at a place that has room for it, and gives the place after it.
+
+fn add_word(buffer: &mut [u8], at: usize, word: &[u8]) -> usize
+    requires { ⌜ at + length (now word) ≤ length (now buffer) ⌝ }
+    ensures { λ r. ⌜ Puts (now (word .entry)) (now (buffer .entry)) at r (now (buffer .exit)) ⌝ }
+{
+    text::put_word(buffer, at, word);
+    at + word.len()
+}
+
+// A decimal number and a word after it.
+fn add_number(buffer: &mut [u8], at: usize, value: u64, word: &[u8]) -> usize
+    requires { ⌜ at + length (decimal value ++ now word) ≤ length (now buffer) ⌝ }
+    ensures { λ r. ⌜ Puts (decimal value ++ now (word .entry)) (now (buffer .entry)) at r (now (buffer .exit)) ⌝ }
+{
+    text::put_decimal(buffer, at, value);
+    add_word(buffer, at + text::decimal_width(value), word)
+}
+
+// A set, which ends its line.
+fn add_set(buffer: &mut [u8], at: usize, set: u64) -> usize
+    requires { ⌜ at + length (hex set ++ bytes "\n") ≤ length (now buffer) ⌝ }
+    ensures { λ r. ⌜ Puts (hex set ++ bytes "\n") (now (buffer .entry)) at r (now (buffer .exit)) ⌝ }
+{
+    text::put_hex(buffer, at, set);
+    add_word(buffer, at + 16, b"\n")
+}
+
+fn add_refused_line(buffer: &mut [u8], at: usize, place: u64, no: u64) -> usize
+    requires { ⌜ at + length (refusedLine place no) ≤ length (now buffer) ⌝ }
+    ensures { λ r. ⌜ Puts (refusedLine place no) (now (buffer .entry)) at r (now (buffer .exit)) ⌝ }
+{
+    let next = add_number(buffer, at, place, b" refused ");
+    add_number(buffer, next, no, b"\n")
+}
+
+fn add_set_line(
+    buffer: &mut [u8],
+    at: usize,
+    place: u64,
+    word: &[u8],
+    party: u64,
+    set: u64,
+) -> usize
+    requires { ⌜ at + length (setLine place (now word) party set) ≤ length (now buffer) ⌝ }
+    ensures { λ r. ⌜ Puts (setLine place (now (word .entry)) party set) (now (buffer .entry)) at r (now (buffer .exit)) ⌝ }
+{
+    let of_party = add_number(buffer, at, place, word);
+    let of_set = add_number(buffer, of_party, party, b" ");
+    add_set(buffer, of_set, set)
+}
+
+// The lines of an event.
+fn add_lines(buffer: &mut [u8], at: usize, place: u64, answer: Answer) -> usize
+    requires { ⌜ at + length (lines place answer) ≤ length (now buffer) ⌝ }
+    ensures { λ r. ⌜ Puts (lines place answer) (now (buffer .entry)) at r (now (buffer .exit)) ⌝ }
+{
+    match answer {
+        Answer::Ok => add_number(buffer, at, place, b" ok\n"),
+        Answer::Learnt { learner, set } => {
+            let next = add_number(buffer, at, place, b" ok\n");
+            add_set_line(buffer, next, place, b" learnt ", learner.0 as u64, set.bits)
+        }
+        Answer::Decided { proposer, set } => {
+            let next = add_number(buffer, at, place, b" ok\n");
+            add_set_line(
+                buffer,
+                next,
+                place,
+                b" decided ",
+                proposer.0 as u64,
+                set.bits,
+            )
+        }
+        Answer::Refused(no) => add_refused_line(buffer, at, place, no as u64),
+    }
+}
+
+// The lines of the first n events of a log.
+fn add_events(buffer: &mut [u8], log: &[u64], n: usize) -> usize
+    requires { ⌜ (2 * n ≤ length (now log)) × (length (linesFrom 1 (answersIn (now log) n)) ≤ length (now buffer)) ⌝ }
+    ensures { λ r. ⌜ Puts (linesFrom 1 (answersIn (now (log .entry)) n)) (now (buffer .entry)) 0 r (now (buffer .exit)) ⌝ }
+{
+    let mut next: usize = 0;
+    let mut k: usize = 0;
+    while k < n {
+        let answer = answer_at(log, k);
+        next = add_lines(buffer, next, (k + 1) as u64, answer);
+        k += 1;
+    }
+    next
+}
+
+fn add_end_line(buffer: &mut [u8], at: usize, events: u64, ok: u64, refused: u64) -> usize
+    requires { ⌜ at + length (endWith events ok refused) ≤ length (now buffer) ⌝ }
+    ensures { λ r. ⌜ Puts (endWith events ok refused) (now (buffer .entry)) at r (now (buffer .exit)) ⌝ }
+{
+    let of_events = add_word(buffer, at, b"end ");
+    let of_ok = add_number(buffer, of_events, events, b" ");
+    let of_refused = add_number(buffer, of_ok, ok, b" ");
+    add_number(buffer, of_refused, refused, b"\n")
+}
+
+// The text of a run whose answers stand in a log.
+fn print_log(buffer: &mut [u8], log: &[u64], n: u16) -> Written
+    requires { ⌜ 2 * n ≤ length (now log) ⌝ }
+    ensures { λ r. ⌜ (r ≡ putAnswer (runText (answersIn (now (log .entry)) n)) (now (buffer .entry))) × (now (buffer .exit) ≡ afterPut (runText (answersIn (now (log .entry)) n)) (now (buffer .entry))) ⌝ }
+{
+    let events = n as usize;
+    let counts = count_events(log, events);
+    let ok = counts.ok;
+    let refused = events as u64 - ok;
+    let length = counts.length + end_line_length(events as u64, ok, refused);
+    if buffer.len() < length {
+        return Written::Refused(Refusal { no: 8 });
+    }
+    let next = add_events(buffer, log, events);
+    Written::Next(add_end_line(buffer, next, events as u64, ok, refused))
+}
+
+// The text of a refused schedule: 18 bytes of words, and the number.
+fn print_refusal(buffer: &mut [u8], no: u8) -> Written
+    ensures { λ r. ⌜ (r ≡ putAnswer (refusedText no) (now (buffer .entry))) × (now (buffer .exit) ≡ afterPut (refusedText no) (now (buffer .entry))) ⌝ }
+{
+    let number = no as u64;
+    if buffer.len() < 18 + text::decimal_width(number) {
+        return Written::Refused(Refusal { no: 8 });
+    }
+    let next = add_word(buffer, 0, b"schedule refused ");
+    Written::Next(add_number(buffer, next, number, b"\n"))
+}

@@ -1,0 +1,90 @@
+"""The walks of `single_step` and `machine_run`: crates/machine/proofs/calls/{single_step,machine_run}/Proof.antt. They follow the calls of src/calls.rt in their order.
+
+Run it at the project's root: python3 tools/machine_walks/calls.py
+"""
+from walk import EVENTS, FIELDS, LENT, RECORDS, Function, Walk, fields_of, lent_on, shared_slice_of, slice_of, tupled, value
+
+COMMENT = '''-- `%s` meets its contract: a walk of its MIR. Each call is one step: by value, on one of the slices, which is lent and comes back, or on all of them. There is no branch. tools/machine_walks/calls.py writes this file.
+-- Assumes nothing.
+'''
+# what the tests of the records return
+TESTS = [
+    ('all-sized', 'Bool', 'sizesInRange z && lengthsAre z n₀ n₁ n₂ n₃'),
+    ('p', 'Bool', 'all (proposerInRange z) ps'), ('a', 'Bool', 'all (acceptorInRange z) acs'), ('l', 'Bool', 'all (learnerInRange z) ls'), ('m', 'Bool', 'all (messageInRange z) t')]
+USES = '''use mathlib.Core.Bool.{Bool, _&&_}
+use Rattle.sizes.specs.Sizes.{sizesInRange}
+use Rattle.model.specs.Ranges.{all, proposerInRange, acceptorInRange, learnerInRange, messageInRange}
+'''
+
+
+def test_records(w, first, length, read):
+    """The sizes and the lengths are tested, and then each list: the results from the local `first` on, the lengths and what is lent from `length` and `read` on."""
+    for s in range(4):
+        w.length(s, length + s)
+    w.call(('calls', 'sized'), [1] + [length + s for s in range(4)], first, 'bool', 'all-sized')
+    w.cut()
+    for s, (name, test) in enumerate([('proposers', 'p'), ('acceptors', 'a'), ('learners', 'l'), ('messages', 'm')]):
+        w.shared(('lent', name + '_in_range'), s, read + 2 * s, read + 2 * s + 1, [1], first + 1 + s, 'bool', test)
+        if s % 2:
+            w.cut()
+
+
+# ---- single_step
+
+w = Walk(Function(
+    'calls', 'single_step', comment=COMMENT % 'single_step', structs=RECORDS + EVENTS, enums=['Answer'],
+    params=[value('Sizes', 'z')] + LENT + [value('Event', 'e')],
+    locals=['bool'] * 5 + ['u8', 'u8'] + ['usize'] * 4 + lent_on('imm') + lent_on('mut'),
+    temporaries=14,
+    result=('Answer', '(r .answer)'),
+    after=fields_of('r'),
+    says=tupled(['agree .' + x for x in ['answer'] + FIELDS]),
+    definitions=TESTS + [('k', 'ℕ', 'soundOf all-sized p a l m'), ('n', 'ℕ', 'turnsOf k 1'), ('r', 'Left', 'timesOf z e ps acs ls t n')],
+    facts=[('fitting', 'Repeats z ps acs ls t n', 'step-sound z ps acs ls t e'), ('agree', 'Agrees r (step z (lent-as ps acs ls t) e)', 'step-left z ps acs ls t e')],
+    uses=(USES + '''use Rattle.model.specs.Step.{step}
+use Rattle.machine.specs.Stepping.{Left}
+use Rattle.machine.specs.Running.{timesOf, Repeats}
+use Rattle.machine.specs.Calls.{lent as lent-as, lengthsAre, soundOf, turnsOf}
+''', '''use Rattle.machine.proofs.StepLaws.{Agrees}
+use Rattle.machine.proofs.StepCalls.{step-sound, step-left}
+''')))
+test_records(w, 7, 14, 18)
+w.call(('calls', 'sound_no'), [7, 8, 9, 10, 11], 12, 'u8', 'k')
+w.call(('calls', 'once_if'), [12], 13, 'u8', 'n')
+w.cut()
+for s, local in enumerate([26, 28, 30, 32]):
+    w.borrow(s, local, local + 1)
+w.hands(('running', 'repeat'), [1, 27, 29, 31, 33, 6, 13], 0, 'Answer', '(r .answer)', w.f.after, 'fitting')
+w.write()
+
+# ---- machine_run
+
+w = Walk(Function(
+    'calls', 'machine_run', comment=COMMENT % 'machine_run', structs=RECORDS,
+    params=[value('Sizes', 'z')] + LENT + [shared_slice_of('u64', 'events'), slice_of('u64', 'log'), value('u16', 'n')],
+    locals=['bool'] * 6 + ['u8', 'usize'] + ['usize'] * 4 + lent_on('imm') + ['unit'] + lent_on('mut') + [('u64', 'mut')],
+    temporaries=17,
+    result=('u8', 'k'),
+    after=fields_of('r') + ['events', '(r .log)'],
+    says=tupled(['run-refused z ps acs ls t events log n'] + ['ends .' + x for x in FIELDS + ['log']]),
+    definitions=TESTS + [('some', 'Bool', 'enoughOf n₄ n₅ n'), ('k', 'ℕ', 'soundRunOf all-sized p a l m some'), ('i', 'ℕ', 'turnsOf k n'), ('r', 'Ran', 'driven z ps acs ls t events log i')],
+    facts=[('fitting', 'Drives z ps acs ls t events log i', 'run-sound z ps acs ls t events log n'),
+           ('ends', 'Ends r (afterRun z (lent-as ps acs ls t) events n log) (logAfterRun z (lent-as ps acs ls t) events n log)', 'run-left z ps acs ls t events log n')],
+    uses=(USES + '''use Rattle.machine.specs.Running.{Ran, driven, Drives}
+use Rattle.machine.specs.Calls.{lent as lent-as, lengthsAre, enoughOf, soundRunOf, turnsOf, afterRun, logAfterRun}
+''', '''use Rattle.machine.proofs.RunLaws.{Ends}
+use Rattle.machine.proofs.StepCalls.{run-refused, run-sound, run-left}
+''')))
+test_records(w, 9, 17, 21)
+w.length(4, 17)
+w.length(5, 20)
+w.call(('calls', 'enough'), [17, 20, 8], 14, 'bool', 'some')
+w.cut()
+w.call(('calls', 'run_no'), [9, 10, 11, 12, 13, 14], 15, 'u8', 'k')
+w.call(('calls', 'count_if'), [15, 8], 16, 'usize', 'i')
+w.cut()
+for s, local in zip([0, 1, 2, 3, 5], [30, 32, 34, 36, 38]):
+    w.borrow(s, local, local + 1)
+w.hands(('running', 'drive'), [1, 31, 33, 35, 37, 6, 39, 16], 29, 'unit', 'tt', [w.f.after[s] for s in (0, 1, 2, 3, 5)], 'fitting')
+w.copy(15, 0)
+w.write()

@@ -1,4 +1,5 @@
-//! `reference run` reads a schedule from standard input and prints its run.
+//! The second program's commands. Schedules and texts are read from standard
+//! input and written to standard output.
 
 #![forbid(unsafe_code)]
 
@@ -6,33 +7,120 @@ use std::env;
 use std::io::{self, Read, Write};
 use std::process::ExitCode;
 
+use reference::generate::{self, Style, STYLES};
 use reference::printer;
-use reference::schedule::LONGEST;
+use reference::rng::Rng;
+use reference::schedule::{self, GREATEST_E, LONGEST};
+use reference::text;
+
+const USAGE: &str = "\
+usage: reference run < schedule
+       reference asm < text > schedule
+       reference dis < schedule > text
+       reference gen SEED STYLE EVENTS > schedule
+
+run prints what the schedule does. asm makes a schedule of its text form, dis
+a text of a schedule. gen draws a schedule of so many events: the same for the
+same seed.";
+
+/// Why a command ends without its output.
+enum Failure {
+    /// The arguments are no command.
+    Usage(String),
+    /// The input is not what the command reads.
+    Input(String),
+}
+
+impl From<io::Error> for Failure {
+    fn from(error: io::Error) -> Failure {
+        Failure::Input(error.to_string())
+    }
+}
 
 fn main() -> ExitCode {
-    let arguments: Vec<_> = env::args_os().skip(1).collect();
-    if arguments.len() != 1 || arguments[0] != "run" {
-        eprintln!("usage: reference run < schedule");
-        return ExitCode::from(2);
-    }
-    match run() {
+    let arguments: Vec<String> = env::args_os()
+        .skip(1)
+        .map(|argument| argument.to_string_lossy().into_owned())
+        .collect();
+    let arguments: Vec<&str> = arguments.iter().map(String::as_str).collect();
+    match command(&arguments) {
         Ok(()) => ExitCode::SUCCESS,
-        Err(error) => {
-            eprintln!("{error}");
+        Err(Failure::Usage(reason)) => {
+            eprintln!("{reason}{USAGE}\nstyles: {}", style_names());
+            ExitCode::from(2)
+        }
+        Err(Failure::Input(reason)) => {
+            eprintln!("{reason}");
             ExitCode::FAILURE
         }
     }
 }
 
-/// Prints the run of the schedule on standard input. One byte past the longest
-/// accepted schedule decides the answer, so no more is read.
-fn run() -> io::Result<()> {
+fn command(arguments: &[&str]) -> Result<(), Failure> {
+    match *arguments {
+        ["run"] => write(&printer::print(&read_schedule()?)),
+        ["asm"] => assemble(),
+        ["dis"] => disassemble(),
+        ["gen", seed, style, events] => generate(seed, style, events),
+        _ => Err(Failure::Usage(String::new())),
+    }
+}
+
+/// Makes a schedule of the text.
+fn assemble() -> Result<(), Failure> {
+    let mut text = String::new();
+    io::stdin().lock().read_to_string(&mut text)?;
+    let bytes = text::assemble(&text).map_err(|error| Failure::Input(error.to_string()))?;
+    write(&bytes)
+}
+
+/// Makes a text of the schedule.
+fn disassemble() -> Result<(), Failure> {
+    let text = text::disassemble(&read_schedule()?)
+        .map_err(|refusal| Failure::Input(format!("schedule refused {refusal}")))?;
+    write(text.as_bytes())
+}
+
+/// Draws a schedule.
+fn generate(seed: &str, style: &str, events: &str) -> Result<(), Failure> {
+    let seed = seed
+        .parse()
+        .map_err(|_| Failure::Usage(format!("`{seed}` is no seed: 0 to 2^64-1\n")))?;
+    let style =
+        Style::named(style).ok_or_else(|| Failure::Usage(format!("`{style}` is no style\n")))?;
+    let events = match events.parse() {
+        Ok(count) if count <= GREATEST_E as usize => count,
+        _ => {
+            let reason = format!("`{events}` is no count of events: 0 to {GREATEST_E}\n");
+            return Err(Failure::Usage(reason));
+        }
+    };
+    let (sizes, events) = generate::generate(&mut Rng::new(seed), style, events);
+    let mut bytes = vec![0; LONGEST];
+    let length = schedule::write(&sizes, &events, &mut bytes)
+        .expect("a drawn schedule is within its ranges");
+    write(&bytes[..length])
+}
+
+fn style_names() -> String {
+    let names: Vec<&str> = STYLES.iter().map(|(name, _)| *name).collect();
+    names.join(", ")
+}
+
+/// The schedule on standard input. One byte past the longest accepted schedule
+/// decides the answer, so no more is read.
+fn read_schedule() -> Result<Vec<u8>, Failure> {
     let mut bytes = Vec::new();
     io::stdin()
         .lock()
         .take(LONGEST as u64 + 1)
         .read_to_end(&mut bytes)?;
+    Ok(bytes)
+}
+
+fn write(bytes: &[u8]) -> Result<(), Failure> {
     let mut output = io::stdout().lock();
-    output.write_all(&printer::print(&bytes))?;
-    output.flush()
+    output.write_all(bytes)?;
+    output.flush()?;
+    Ok(())
 }

@@ -7,6 +7,11 @@
 
 use std::time::{Duration, Instant};
 
+use compare::machine::form::{self, Acceptor, Learner, Proposer};
+use compare::machine::second::said;
+use compare::machine::{EVENT, LOG};
+use reference::generate::{events_on, Style};
+use reference::machine;
 use reference::numbers::{self, SCHEDULE_LIMIT, TABLE_LIMIT};
 use reference::refusal::Refusal;
 use reference::rng::Rng;
@@ -35,6 +40,15 @@ const LIMIT: u32 = 1;
 /// Room for a table of the longest numbers: S, then 17 bytes for each scan.
 const LONGEST_TABLE: usize = 1 + 17 * GREATEST_S as usize;
 
+/// The greatest sizes.
+const GREATEST: Sizes = Sizes {
+    p: 8,
+    a: 7,
+    l: 8,
+    m: 512,
+    s: 64,
+};
+
 /// What a job gives where its program refuses.
 const REFUSED: u64 = u64::MAX;
 
@@ -47,6 +61,8 @@ fn main() {
     table_ratios("longest numbers", &longest);
     table_ratios("typical numbers", &typical);
     shelf_ratios(&typical);
+    machine_ratios(rng, "contention", Style::Contention);
+    machine_ratios(rng, "lossy", Style::Lossy);
 }
 
 /// Prints the ratio of the two jobs' best times. The rounds alternate, and both
@@ -168,13 +184,7 @@ fn write_all(buffer: &mut [u8], values: &[u64]) -> usize {
 
 /// The longest schedule, read and written.
 fn schedule_ratios() {
-    let sizes = Sizes {
-        p: 8,
-        a: 7,
-        l: 8,
-        m: 512,
-        s: 64,
-    };
+    let sizes = GREATEST;
     let event = Event {
         code: SCHEDULE_LIMIT,
         a: SCHEDULE_LIMIT,
@@ -298,4 +308,140 @@ fn shelf_ratios(records: &[Record]) {
 /// The time of the scan found; 0 for none.
 fn time_of(found: Option<shelf::Answer>) -> u64 {
     found.map_or(0, |found| found.time)
+}
+
+/// The longest run on the most slots, from fresh: tested once, and tested at
+/// each event.
+fn machine_ratios(rng: &mut Rng, name: &str, style: Style) {
+    let events = events_on(rng, style, &GREATEST, GREATEST_E as usize);
+    let mut proved = ProvedRun::new(&events);
+    let mut second = SecondRun::new(&events);
+    ratio(
+        &format!("run, 4,096 events on 512 slots, {name}"),
+        || proved.run_at_once(),
+        || second.run_at_once(),
+    );
+    ratio(
+        &format!("4,096 single steps on 512 slots, {name}"),
+        || proved.run_by_steps(),
+        || second.run_by_steps(),
+    );
+}
+
+/// The sum of a log.
+fn sum_of(log: &[u64]) -> u64 {
+    log.iter().fold(0, |sum, number| sum.wrapping_add(*number))
+}
+
+/// A run by the proved functions.
+struct ProvedRun {
+    sizes: form::Sizes,
+    proposers: Vec<Proposer>,
+    acceptors: Vec<Acceptor>,
+    learners: Vec<Learner>,
+    slots: Vec<form::Message>,
+    events: Vec<u64>,
+    log: Vec<u64>,
+}
+
+impl ProvedRun {
+    fn new(events: &[Event]) -> ProvedRun {
+        let numbers = events
+            .iter()
+            .flat_map(|event| [event.code, event.a, event.b]);
+        ProvedRun {
+            sizes: form::Sizes::of(&GREATEST),
+            proposers: vec![Proposer::default(); GREATEST.p as usize],
+            acceptors: vec![Acceptor::default(); GREATEST.a as usize],
+            learners: vec![Learner::default(); GREATEST.l as usize],
+            slots: vec![form::Message::default(); GREATEST.m as usize],
+            events: numbers.collect(),
+            log: vec![0; events.len() * LOG],
+        }
+    }
+
+    fn fresh(&mut self) -> u8 {
+        calls::fresh(
+            self.sizes,
+            &mut self.proposers,
+            &mut self.acceptors,
+            &mut self.learners,
+            &mut self.slots,
+        )
+    }
+
+    /// Does as many events from that one on.
+    fn run(&mut self, first: usize, count: usize) -> u8 {
+        calls::run(
+            self.sizes,
+            &mut self.proposers,
+            &mut self.acceptors,
+            &mut self.learners,
+            &mut self.slots,
+            &self.events[EVENT * first..],
+            &mut self.log[LOG * first..],
+            count as u16,
+        )
+    }
+
+    fn run_at_once(&mut self) -> u64 {
+        let count = self.events.len() / EVENT;
+        match (self.fresh(), self.run(0, count)) {
+            (0, 0) => sum_of(&self.log),
+            _ => REFUSED,
+        }
+    }
+
+    fn run_by_steps(&mut self) -> u64 {
+        let mut refused = self.fresh();
+        for place in 0..self.events.len() / EVENT {
+            refused |= self.run(place, 1);
+        }
+        match refused {
+            0 => sum_of(&self.log),
+            _ => REFUSED,
+        }
+    }
+}
+
+/// A run by the second program.
+struct SecondRun<'a> {
+    slots: Vec<machine::Message>,
+    events: &'a [Event],
+    log: Vec<u64>,
+}
+
+impl SecondRun<'_> {
+    fn new(events: &[Event]) -> SecondRun<'_> {
+        SecondRun {
+            slots: vec![machine::Message::FREE; GREATEST.m as usize],
+            events,
+            log: vec![0; events.len() * LOG],
+        }
+    }
+
+    fn fresh(&mut self) -> machine::Records {
+        machine::fresh(&GREATEST, &mut self.slots).expect("the sizes are within their ranges")
+    }
+
+    fn run_at_once(&mut self) -> u64 {
+        let mut records = self.fresh();
+        if machine::test_records(&records, &self.slots).is_err() {
+            return REFUSED;
+        }
+        for (event, log) in self.events.iter().zip(self.log.chunks_exact_mut(LOG)) {
+            let result = machine::step_tested(&mut records, &mut self.slots, event);
+            log.copy_from_slice(&said(result));
+        }
+        sum_of(&self.log)
+    }
+
+    fn run_by_steps(&mut self) -> u64 {
+        let mut records = self.fresh();
+        for (event, log) in self.events.iter().zip(self.log.chunks_exact_mut(LOG)) {
+            let result = machine::step(&mut records, &mut self.slots, event);
+            log.copy_from_slice(&said(result));
+        }
+        sum_of(&self.log)
+    }
 }

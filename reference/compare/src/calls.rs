@@ -1,8 +1,13 @@
 //! The C calls of the proved functions, each behind a safe function of the same
-//! name without `test_`. Answers are passed on as the calls give them: a test
-//! answers 0 or 1, a call that may refuse answers 0 or the refusal's number.
+//! name without `test_` or `machine_`. Answers are passed on as the calls give
+//! them: a test answers 0 or 1, a call that may refuse answers 0 or the
+//! refusal's number.
+
+use compare::machine::form::{Acceptor, Learner, Message, Proposer, Sizes};
 
 mod c {
+    use super::{Acceptor, Learner, Message, Proposer, Sizes};
+
     extern "C" {
         pub fn test_scans_of_one(scan: u16) -> u64;
         pub fn test_scans_union(a: u64, b: u64) -> u64;
@@ -82,6 +87,34 @@ mod c {
             set: u64,
             tag: u64,
             answer: *mut u64,
+        ) -> u8;
+
+        pub fn machine_fresh(
+            sizes: Sizes,
+            proposers: *mut Proposer,
+            proposers_length: usize,
+            acceptors: *mut Acceptor,
+            acceptors_length: usize,
+            learners: *mut Learner,
+            learners_length: usize,
+            slots: *mut Message,
+            slots_length: usize,
+        ) -> u8;
+        pub fn machine_run(
+            sizes: Sizes,
+            proposers: *mut Proposer,
+            proposers_length: usize,
+            acceptors: *mut Acceptor,
+            acceptors_length: usize,
+            learners: *mut Learner,
+            learners_length: usize,
+            slots: *mut Message,
+            slots_length: usize,
+            events: *const u64,
+            events_length: usize,
+            log: *mut u64,
+            log_length: usize,
+            n: u16,
         ) -> u8;
     }
 }
@@ -265,4 +298,67 @@ pub fn where_is_written(bytes: &[u8], set: u64, tag: u64, answer: &mut [u64; 4])
     // SAFETY: the call reads `length` bytes from the slice's pointer at most,
     // and writes the four; both are borrowed for the call.
     unsafe { c::test_where_is_written(bytes.as_ptr(), bytes.len(), set, tag, answer.as_mut_ptr()) }
+}
+
+/// Makes the records and slots those of a fresh run.
+pub fn fresh(
+    sizes: Sizes,
+    proposers: &mut [Proposer],
+    acceptors: &mut [Acceptor],
+    learners: &mut [Learner],
+    slots: &mut [Message],
+) -> u8 {
+    // SAFETY: the call reads and writes as many records and slots from each
+    // slice's pointer as its length says at most; all four are borrowed for
+    // the call. A flag can only be given as 0 or 1.
+    unsafe {
+        c::machine_fresh(
+            sizes,
+            proposers.as_mut_ptr(),
+            proposers.len(),
+            acceptors.as_mut_ptr(),
+            acceptors.len(),
+            learners.as_mut_ptr(),
+            learners.len(),
+            slots.as_mut_ptr(),
+            slots.len(),
+        )
+    }
+}
+
+/// Does the first `n` events, three numbers each, on the records and slots and
+/// leaves two numbers of the log for each.
+#[allow(clippy::too_many_arguments)]
+pub fn run(
+    sizes: Sizes,
+    proposers: &mut [Proposer],
+    acceptors: &mut [Acceptor],
+    learners: &mut [Learner],
+    slots: &mut [Message],
+    events: &[u64],
+    log: &mut [u64],
+    n: u16,
+) -> u8 {
+    // SAFETY: the call reads and writes as many records, slots and numbers of
+    // log from each slice's pointer as its length says at most, and reads the
+    // events so; all six are borrowed for the call. A flag can only be given
+    // as 0 or 1.
+    unsafe {
+        c::machine_run(
+            sizes,
+            proposers.as_mut_ptr(),
+            proposers.len(),
+            acceptors.as_mut_ptr(),
+            acceptors.len(),
+            learners.as_mut_ptr(),
+            learners.len(),
+            slots.as_mut_ptr(),
+            slots.len(),
+            events.as_ptr(),
+            events.len(),
+            log.as_mut_ptr(),
+            log.len(),
+            n,
+        )
+    }
 }

@@ -8,9 +8,11 @@
 use std::panic::catch_unwind;
 use std::process::ExitCode;
 
+use compare::machine::Suites;
+use compare::suite::{self, Outcome, Test, Tests};
 use reference::rng::Rng;
 
-use suite::{Outcome, Test, Tests};
+use proved::Proved;
 
 #[allow(unsafe_code)]
 mod calls;
@@ -18,10 +20,10 @@ mod clock;
 mod examples;
 mod forms;
 mod numbers;
+mod proved;
 mod schedules;
 mod sets;
 mod shelf;
-mod suite;
 mod tables;
 
 /// The seed of every test's generator.
@@ -36,6 +38,9 @@ const SUITES: &[(&str, Tests)] = &[
     ("schedules", schedules::TESTS),
     ("shelf", shelf::TESTS),
     ("examples", examples::TESTS),
+    ("machine, runs", Suites::<Proved>::RUNS),
+    ("machine, steps", Suites::<Proved>::STEPS),
+    ("machine, fresh", Suites::<Proved>::FRESH),
 ];
 
 /// Counts over tests.

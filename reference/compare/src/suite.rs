@@ -61,6 +61,16 @@ impl Comparisons {
         ))
     }
 
+    /// Compares what the two programs leave behind, by its first difference.
+    #[inline]
+    pub fn left(&mut self, input: Arguments, difference: Option<String>) -> Result<(), String> {
+        self.made += 1;
+        match difference {
+            None => Ok(()),
+            Some(difference) => Err(format!("{input}: {difference}")),
+        }
+    }
+
     /// How many comparisons were made.
     pub fn made(self) -> Outcome {
         Ok(self.made)

@@ -1,0 +1,35 @@
+//! The proved machine, through the archive's calls.
+
+use compare::machine::form::Sizes;
+use compare::machine::lent::Lent;
+use compare::machine::Machine;
+
+use crate::calls;
+
+/// The archive's machine.
+pub struct Proved;
+
+impl Machine for Proved {
+    fn fresh(sizes: Sizes, lent: &mut Lent) -> u8 {
+        calls::fresh(
+            sizes,
+            lent.proposers.lent_mut(),
+            lent.acceptors.lent_mut(),
+            lent.learners.lent_mut(),
+            lent.slots.lent_mut(),
+        )
+    }
+
+    fn run(sizes: Sizes, lent: &mut Lent, events: &[u64], log: &mut [u64], n: u16) -> u8 {
+        calls::run(
+            sizes,
+            lent.proposers.lent_mut(),
+            lent.acceptors.lent_mut(),
+            lent.learners.lent_mut(),
+            lent.slots.lent_mut(),
+            events,
+            log,
+            n,
+        )
+    }
+}

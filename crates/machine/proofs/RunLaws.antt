@@ -40,7 +40,7 @@ map-next {B} f i (suc n) = ap (λ (l : List B). f i ∷ l) (map-next f (suc i) n
 events-next : (ns : List ℕ) (n : ℕ) → eventsIn ns (suc n) ≡ eventsIn ns n ++ (eventOf ns n ∷ [])
 events-next ns n = map-next (eventOf ns) 0 n ∙ ap (λ (k : ℕ). eventsIn ns n ++ (eventOf ns k ∷ [])) (omega arith)
 
-length-from : {B : Type 0} (f : ℕ → B) (i n : ℕ) → length (map f (from i n)) ≡ n
+pub length-from : {B : Type 0} (f : ℕ → B) (i n : ℕ) → length (map f (from i n)) ≡ n
 unfolding from
 length-from f i zero = refl
 length-from f i (suc n) = ap suc (length-from f (suc i) n)
@@ -56,7 +56,7 @@ module _ (z : Sizes) where
   answers-next s [] e = refl
   answers-next s (x ∷ es) e = ap (λ (ws : List Answer). step z s x .answer ∷ ws) (answers-next (step z s x .state) es e)
 
-  length-answers : (s : State) (es : List Event) → length (answers z s es) ≡ length es
+  pub length-answers : (s : State) (es : List Event) → length (answers z s es) ≡ length es
   unfolding answers
   length-answers s [] = refl
   length-answers s (e ∷ es) = ap suc (length-answers (step z s e .state) es)

@@ -4,3 +4,4 @@ pub mod Lengths
 pub mod Events
 pub mod Longest
 pub mod ReadBack
+pub mod Printing

@@ -8,12 +8,17 @@ ghost use Rattle.choice.specs.Choice.{if_then_else_};
 ghost use Rattle.text.specs.Words.{bytes};
 ghost use Rattle.text.specs.Digits.{decimal, hex};
 ghost use Rattle.model.specs.Step.{answerNo};
+ghost use mathlib.Core.Bool.{true};
+ghost use Rattle.sizes.specs.Sizes.{sizesInRange};
 ghost use Rattle.printer.specs.Puts.{Puts};
 ghost use Rattle.printer.specs.Log.{answerOf, answerAt, answersIn};
 ghost use Rattle.printer.specs.Text.{refusedLine, setLine, lines, linesFrom, okCount, endWith, runText, refusedText, putAnswer, afterPut};
+ghost use Rattle.printer.specs.Printing.{textOfRun, text};
 use model::Answer;
 use numbers::Refusal;
 use numbers::Written;
+use schedule::Header;
+use schedule::ScheduleRead;
 use sets::LearnerId;
 use sets::ProposerId;
 use sets::scans::Scans;
@@ -246,4 +251,31 @@ fn print_refusal(buffer: &mut [u8], no: u8) -> Written
     }
     let next = add_word(buffer, 0, b"schedule refused ");
     Written::Next(add_number(buffer, next, number, b"\n"))
+}
+
+// Room for the numbers of the most events that a schedule has, and for their answers.
+const MOST_NUMBERS: usize = 12_288;
+
+const MOST_ANSWERS: usize = 8_192;
+
+// The text of a run from fresh.
+fn print_run(buffer: &mut [u8], events: &[u64], header: Header) -> Written
+    requires { ⌜ (sizesInRange (header .sizes) ≡ true) × ((header .events ≤ 4096) × (3 * header .events ≤ length (now events))) ⌝ }
+    ensures { λ r. ⌜ (r ≡ putAnswer (textOfRun (header .sizes) (now (events .entry)) (header .events)) (now (buffer .entry))) × (now (buffer .exit) ≡ afterPut (textOfRun (header .sizes) (now (events .entry)) (header .events)) (now (buffer .entry))) ⌝ }
+{
+    let mut log: [u64; MOST_ANSWERS] = [0; MOST_ANSWERS];
+    machine::calls::whole_run(header.sizes, events, &mut log, header.events);
+    print_log(buffer, &log, header.events)
+}
+
+// What the bytes of a schedule print: the text goes into the buffer, and its length is answered.
+pub fn print(buffer: &mut [u8], bytes: &[u8]) -> Written
+    ensures { λ r. ⌜ (r ≡ putAnswer (text (now (bytes .entry))) (now (buffer .entry))) × (now (buffer .exit) ≡ afterPut (text (now (bytes .entry))) (now (buffer .entry))) ⌝ }
+{
+    let mut room: [u64; MOST_NUMBERS] = [0; MOST_NUMBERS];
+    let read = schedule::read_schedule(&mut room, bytes);
+    match read {
+        ScheduleRead::Events(header) => print_run(buffer, &room, header),
+        ScheduleRead::Refused(refusal) => print_refusal(buffer, refusal.no),
+    }
 }

@@ -67,6 +67,26 @@ parts-one-form bytes six ws first next b e h f l =
       count = rw (head, rest) es;
     }
 
+-- what is read is right: its header, and as many numbers after it as its events have
+pub record Whole (vs : List ℕ) : Type 0 where
+  pub right : Right (headerOf vs)
+  pub count : length (drop 6 vs) ≡ headerOf vs .events * 3
+
+pub schedule-whole : (bytes : List ℕ) {vs : List ℕ} {next : ℕ} → readSchedule bytes ≡ got vs next → Whole vs
+schedule-whole bytes {vs} {next} e = go (reading bytes) e
+  where
+    go : {k : Checked} {o : Outcome} → Reading bytes k o → o ≡ got vs next → Whole vs
+    go (no-six a) q = absurd (refused-got q)
+    go (no-header a h) q = absurd (refused-got q)
+    go (no-events a h d) q = absurd (refused-got q)
+    go (follows a h d l) q = absurd (refused-got q)
+    go (right {six = six} {ws = ws} {first = first} a h d l) q =
+        let v : six ++ ws ≡ vs = cc in
+        let k = plain-count 6 limit.Schedule bytes 0 a in
+        let head : headerOf vs ≡ headerOf six = ap headerOf (sym v) ∙ header-append six ws k in
+        let rest : drop 6 vs ≡ ws = ap (drop 6) (sym v) ∙ drop-at six ws 6 k in
+        record { right = rw head (no-right (headerOf six) h); count = rw (head, rest) (plain-count (headerOf six .events * 3) limit.Schedule bytes first d) }
+
 -- a schedule is read only from its one form
 pub schedule-one-form : (bytes : List ℕ) {vs : List ℕ} {next : ℕ} → Bytes bytes → readSchedule bytes ≡ got vs next → OneForm bytes vs next
 schedule-one-form bytes {vs} {next} b e = go (reading bytes) e

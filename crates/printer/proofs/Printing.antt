@@ -1,0 +1,120 @@
+-- A schedule that is read, run and printed: what is printed is the text of its bytes.
+use mathlib.Core.Path.{_≡_, refl, sym, ap, _∙_}
+use mathlib.Core.Bool.{Bool, true, false}
+use mathlib.Core.List.{List, [], _∷_, _++_, map}
+use Prim.Native.Nat.{ℕ, zero, suc, _+_, _*_, _≤_, _<_}
+use native.Mathlib.Omega.{arith}
+use lib.Dec.{ltb, leb}
+use lib.ListN.{length, drop, getD, List·getD-append}
+use lib.Seq.{sets, sets-eq, length-sets}
+use borrow.Author.Tests.{le-leb, le-ltb}
+use Rattle.choice.specs.Choice.{if_then_else_}
+use Rattle.sizes.specs.Sizes.{sizesInRange}
+use Rattle.sizes.specs.declared.Sizes.{Sizes}
+use Rattle.numbers.specs.declared.Refusal.{Refusal}
+use Rattle.numbers.specs.declared.Written.{Written}
+use Rattle.forms.specs.Forms.{Outcome, got, refused}
+use Rattle.schedule.specs.Schedule.{headerOf, readSchedule, readAnswer, roomAfter, afterRead}
+use Rattle.schedule.specs.declared.Header.{Header}
+use Rattle.schedule.specs.declared.ScheduleRead.{ScheduleRead}
+use Rattle.schedule.specs.declared.ScheduleRead.the-variants as schedule
+use Rattle.schedule.proofs.ScheduleLaws.{schedule-whole}
+use Rattle.model.specs.Records.{fresh}
+use Rattle.model.specs.Table.{from}
+use Rattle.model.specs.Step.{answers}
+use Rattle.model.specs.declared.Event.{Event}
+use Rattle.model.specs.declared.Answer.{Answer}
+use Rattle.model.specs.declared.Answer.the-variants.{Ok, Learnt, Decided, Refused}
+use Rattle.model.proofs.Lists.{All, none, also}
+use Rattle.model.proofs.Answers.{Named, namesNone, namesLearner, namesProposer, namesRefusal, all-named}
+use Rattle.machine.specs.Running.{eventOf, eventsIn}
+use Rattle.machine.specs.Calls.{hasNumbers, logged, wholeRunNo, logAfterWholeRun}
+use Rattle.machine.proofs.Bounds.{bounds}
+use Rattle.machine.proofs.RunLaws.{length-from, length-answers}
+use Rattle.printer.specs.Log.{answersIn, Small}
+use Rattle.printer.specs.Text.{runText, refusedText, putAnswer, afterPut}
+use Rattle.printer.specs.Printing.{textOfRun, textOfRead, text}
+use Rattle.printer.proofs.ReadBack.{read-back}
+
+-- ---- the answers of a run are read back from its log
+
+named-small : (z : Sizes) → sizesInRange z ≡ true → (w : Answer) → Named z w → Small w
+named-small z h Ok namesNone = tt
+named-small z h (Learnt l v) (namesLearner i) = omega (arith, bounds z h .few-learners)
+named-small z h (Decided p v) (namesProposer i) = omega (arith, bounds z h .few-proposers)
+named-small z h (Refused n) (namesRefusal l m) = (l, omega arith)
+
+all-small : (z : Sizes) → sizesInRange z ≡ true → (ws : List Answer) → All (Named z) ws → All Small ws
+all-small z h [] none = none
+all-small z h (w ∷ ws) (also x xs) = also (named-small z h w x) (all-small z h ws xs)
+
+module _ (z : Sizes) (ns log : List ℕ) (n : ℕ) (h : sizesInRange z ≡ true) (numbers : 3 * n ≤ length ns) (room : 2 * n ≤ length log) where
+  there : hasNumbers ns n log ≡ true
+  there = rw (le-leb (3 * n) (length ns) numbers, le-leb (2 * n) (length log) room)
+
+  many : length (answers z (fresh z) (eventsIn ns n)) ≡ n
+  many = length-answers z (fresh z) (eventsIn ns n) ∙ length-from (eventOf ns) 0 n
+
+  run-log : answersIn (logAfterWholeRun z ns n log) n ≡ answers z (fresh z) (eventsIn ns n)
+  run-log =
+      let ws = answers z (fresh z) (eventsIn ns n) in
+      rw (h, there)
+      (ap (answersIn (logged ws log)) (sym many) ∙ read-back ws (drop (2 * length ws) log) (all-small z h ws (all-named z (fresh z) (eventsIn ns n))))
+
+  pub run-printed : (buffer log′ : List ℕ) (r : Written) (left : List ℕ) → log′ ≡ logAfterWholeRun z ns n log
+      → (r ≡ putAnswer (runText (answersIn log′ n)) buffer) × (left ≡ afterPut (runText (answersIn log′ n)) buffer)
+      → (r ≡ putAnswer (textOfRun z ns n) buffer) × (left ≡ afterPut (textOfRun z ns n) buffer)
+  run-printed buffer log′ r left e p =
+      let w : answersIn log′ n ≡ answers z (fresh z) (eventsIn ns n) = ap (λ (l : List ℕ). answersIn l n) e ∙ run-log in
+      (p .0 ∙ ap (λ (ws : List Answer). putAnswer (runText ws) buffer) w, p .1 ∙ ap (λ (ws : List Answer). afterPut (runText ws) buffer) w)
+
+-- ---- the events of a schedule that is read
+
+-- numbers behind those of the events change nothing
+events-before : (ns rest : List ℕ) (k n : ℕ) → 3 * (k + n) ≤ length ns → map (eventOf (ns ++ rest)) (from k n) ≡ map (eventOf ns) (from k n)
+unfolding from
+events-before ns rest k zero h = refl
+events-before ns rest k (suc n) h =
+    let a : getD (ns ++ rest) (3 * k) 0 ≡ getD ns (3 * k) 0 = List·getD-append ns rest 0 (3 * k) (omega arith) in
+    let b : getD (ns ++ rest) (3 * k + 1) 0 ≡ getD ns (3 * k + 1) 0 = List·getD-append ns rest 0 (3 * k + 1) (omega arith) in
+    let d : getD (ns ++ rest) (3 * k + 2) 0 ≡ getD ns (3 * k + 2) 0 = List·getD-append ns rest 0 (3 * k + 2) (omega arith) in
+    rw (a, b, d, events-before ns rest (suc k) n (omega arith))
+
+events-in-room : (room ns : List ℕ) (n : ℕ) → 3 * n ≤ length ns → length ns ≤ length room → eventsIn (sets room 0 ns) n ≡ eventsIn ns n
+events-in-room room ns n h l = rw (sets-eq ns room 0 (omega arith)) (events-before ns (drop (0 + length ns) room) 0 n (omega arith))
+
+-- room for 4,096 events is never too small
+module _ (bytes room : List ℕ) (size : length room ≡ 12_288) where
+  enough-room : (vs : List ℕ) (next : ℕ) → readSchedule bytes ≡ got vs next → ltb (length room) (headerOf vs .events * 3) ≡ false
+  enough-room vs next e = le-ltb (length room) (headerOf vs .events * 3) (omega (arith, schedule-whole bytes e .right .count))
+
+  pub record Ran (h : Header) : Type 0 where
+    pub sizes : sizesInRange (h .sizes) ≡ true
+    pub few : h .events ≤ 4096
+    pub numbers : 3 * h .events ≤ length (afterRead (readSchedule bytes) room)
+    pub same : textOfRun (h .sizes) (afterRead (readSchedule bytes) room) (h .events) ≡ text bytes
+
+  ran-by : (o : Outcome) → readSchedule bytes ≡ o → (h : Header) → readAnswer o room ≡ schedule.Events h → Ran h
+  unfolding readAnswer afterRead roomAfter textOfRead
+  ran-by (got vs next) e h q =
+      let w = schedule-whole bytes e in
+      let f = enough-room vs next e in
+      let k : headerOf vs ≡ h = let z : schedule.Events (headerOf vs) ≡ schedule.Events h = rw f at q in cc in
+      record {
+        sizes = rw (← k) (w .right .sizes);
+        few = rw (← k) (w .right .count);
+        numbers = rw (e, f, length-sets room 0 (drop 6 vs), ← k) (omega (arith, w .right .count));
+        same = rw (e, f, ← k) (ap (λ (es : List Event). runText (answers (headerOf vs .sizes) (fresh (headerOf vs .sizes)) es)) (events-in-room room (drop 6 vs) (headerOf vs .events) (omega (arith, w .count)) (omega (arith, w .count, w .right .count))));
+      }
+  ran-by (refused r) e h q = absurd (let z : _≡_ {A = ℕ} 0 1 = cc in omega arith)
+
+  pub ran : (h : Header) → readAnswer (readSchedule bytes) room ≡ schedule.Events h → Ran h
+  ran h q = ran-by (readSchedule bytes) refl h q
+
+  refused-by : (o : Outcome) → readSchedule bytes ≡ o → (r : Refusal) → readAnswer o room ≡ schedule.Refused r → refusedText (r .no) ≡ text bytes
+  unfolding readAnswer textOfRead
+  refused-by (got vs next) e r q = absurd (let z : schedule.Events (headerOf vs) ≡ schedule.Refused r = rw (enough-room vs next e) at q in let y : _≡_ {A = ℕ} 0 1 = cc in omega arith)
+  refused-by (refused s) e r q = rw e (ap (λ (x : Refusal). refusedText (x .no)) (let z : r ≡ s = cc in z))
+
+  pub refused-printed : (r : Refusal) → readAnswer (readSchedule bytes) room ≡ schedule.Refused r → refusedText (r .no) ≡ text bytes
+  refused-printed r q = refused-by (readSchedule bytes) refl r q

@@ -5,3 +5,4 @@ pub mod Events
 pub mod Longest
 pub mod ReadBack
 pub mod Printing
+pub mod Example

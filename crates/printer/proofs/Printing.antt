@@ -2,21 +2,23 @@
 use mathlib.Core.Path.{_≡_, refl, sym, ap, _∙_}
 use mathlib.Core.Bool.{Bool, true, false}
 use mathlib.Core.List.{List, [], _∷_, _++_, map}
-use Prim.Native.Nat.{ℕ, zero, suc, _+_, _*_, _≤_, _<_}
+use Prim.Native.Nat.{ℕ, zero, suc, _+_, _*_, _≤_}
 use native.Mathlib.Omega.{arith}
-use lib.Dec.{ltb, leb}
+use lib.Dec.{ltb}
 use lib.ListN.{length, drop, getD, List·getD-append}
 use lib.Seq.{sets, sets-eq, length-sets}
-use borrow.Author.Tests.{le-leb, le-ltb}
-use Rattle.choice.specs.Choice.{if_then_else_}
+use borrow.Author.Tests.{le-leb, le-ltb, ltb-false}
 use Rattle.sizes.specs.Sizes.{sizesInRange}
 use Rattle.sizes.specs.declared.Sizes.{Sizes}
+use Rattle.choice.specs.Choice.{if_then_else_}
+use Rattle.numbers.specs.Coding.{refusedWrite, leaves}
 use Rattle.numbers.specs.declared.Refusal.{Refusal}
 use Rattle.numbers.specs.declared.Written.{Written}
+use Rattle.numbers.specs.declared.Written.the-variants as written
+use Rattle.text.proofs.DigitLaws.{decimal-most}
 use Rattle.forms.specs.Forms.{Outcome, got, refused}
 use Rattle.schedule.specs.Schedule.{headerOf, readSchedule, readAnswer, roomAfter, afterRead}
 use Rattle.schedule.specs.declared.Header.{Header}
-use Rattle.schedule.specs.declared.ScheduleRead.{ScheduleRead}
 use Rattle.schedule.specs.declared.ScheduleRead.the-variants as schedule
 use Rattle.schedule.proofs.ScheduleLaws.{schedule-whole}
 use Rattle.model.specs.Records.{fresh}
@@ -28,13 +30,15 @@ use Rattle.model.specs.declared.Answer.the-variants.{Ok, Learnt, Decided, Refus
 use Rattle.model.proofs.Lists.{All, none, also}
 use Rattle.model.proofs.Answers.{Named, namesNone, namesLearner, namesProposer, namesRefusal, all-named}
 use Rattle.machine.specs.Running.{eventOf, eventsIn}
-use Rattle.machine.specs.Calls.{hasNumbers, logged, wholeRunNo, logAfterWholeRun}
+use Rattle.machine.specs.Calls.{hasNumbers, logged, logAfterWholeRun}
 use Rattle.machine.proofs.Bounds.{bounds}
 use Rattle.machine.proofs.RunLaws.{length-from, length-answers}
 use Rattle.printer.specs.Log.{answersIn, Small}
-use Rattle.printer.specs.Text.{runText, refusedText, putAnswer, afterPut}
+use Rattle.printer.specs.Text.{runText, refusedText, longestText, Short, putAnswer, afterPut}
 use Rattle.printer.specs.Printing.{textOfRun, textOfRead, text}
 use Rattle.printer.proofs.ReadBack.{read-back}
+use Rattle.printer.proofs.Lengths.{refusal-length}
+use Rattle.printer.proofs.Longest.{longest}
 
 -- ---- the answers of a run are read back from its log
 
@@ -118,3 +122,45 @@ module _ (bytes room : List ℕ) (size : length room ≡ 12_288) where
 
   pub refused-printed : (r : Refusal) → readAnswer (readSchedule bytes) room ≡ schedule.Refused r → refusedText (r .no) ≡ text bytes
   refused-printed r q = refused-by (readSchedule bytes) refl r q
+
+-- ---- no text is longer than the bound
+
+named-short : (z : Sizes) → sizesInRange z ≡ true → (w : Answer) → Named z w → Short w
+named-short z h Ok namesNone = tt
+named-short z h (Learnt l v) (namesLearner i) = omega (arith, bounds z h .few-learners)
+named-short z h (Decided p v) (namesProposer i) = omega (arith, bounds z h .few-proposers)
+named-short z h (Refused n) (namesRefusal l m) = omega arith
+
+all-short : (z : Sizes) → sizesInRange z ≡ true → {ws : List Answer} → All (Named z) ws → All Short ws
+all-short z h none = none
+all-short z h (also {x = w} x xs) = also (named-short z h w x) (all-short z h xs)
+
+text-by : (bytes : List ℕ) (o : Outcome) → readSchedule bytes ≡ o → length (textOfRead o) ≤ longestText
+unfolding textOfRead
+text-by bytes (got vs next) e =
+    let w = schedule-whole bytes e .right in
+    let z = headerOf vs .sizes in
+    let es = eventsIn (drop 6 vs) (headerOf vs .events) in
+    longest (answers z (fresh z) es) (omega (arith, length-answers z (fresh z) es, length-from (eventOf (drop 6 vs)) 0 (headerOf vs .events), w .count)) (all-short z (w .sizes) (all-named z (fresh z) es))
+text-by bytes (refused r) e = omega (arith, refusal-length (r .no), decimal-most 20 (r .no))
+
+-- whatever the bytes are
+pub text-most : (bytes : List ℕ) → length (text bytes) ≤ longestText
+text-most bytes = text-by bytes (readSchedule bytes) refl
+
+-- so a buffer of that length is never too short
+pub never-eight : (bytes buffer : List ℕ) → longestText ≤ length buffer → putAnswer (text bytes) buffer ≡ written.Next (length (text bytes))
+unfolding putAnswer
+never-eight bytes buffer h = rw (le-ltb (length buffer) (length (text bytes)) (omega (arith, text-most bytes)))
+
+-- what is answered as the text's length lies within the buffer
+within-by : (t buffer : List ℕ) (n : ℕ) (b : Bool) → ltb (length buffer) (length t) ≡ b → (if b then refusedWrite 8 else written.Next (length t)) ≡ written.Next n
+    → n ≤ length (leaves (if b then refusedWrite 8 else written.Next (length t)) (sets buffer 0 t) buffer)
+within-by t buffer n true h q = absurd (let z : _≡_ {A = ℕ} 0 1 = cc in omega arith)
+within-by t buffer n false h q =
+    let k : length t ≡ n = cc in
+    rw (length-sets buffer 0 t) (omega (arith, k, ltb-false (length buffer) (length t) h))
+
+pub next-within : (bytes buffer after : List ℕ) (n : ℕ) → putAnswer (text bytes) buffer ≡ written.Next n → after ≡ afterPut (text bytes) buffer → n ≤ length after
+unfolding putAnswer afterPut
+next-within bytes buffer after n q e = rw e (within-by (text bytes) buffer n (ltb (length buffer) (length (text bytes))) refl q)

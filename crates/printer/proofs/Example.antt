@@ -1,0 +1,38 @@
+-- Document 01's example: what its bytes print, computed.
+use mathlib.Core.Path.{_≡_, refl, ap, _∙_}
+use mathlib.Core.List.{List, [], _∷_}
+use Prim.Native.Nat.{ℕ}
+use lib.ListN.{drop}
+use Rattle.sizes.specs.Sizes.{scansInRange, sizesInRange}
+use Rattle.sets.specs.Scans.{mostScans}
+use Rattle.sets.specs.Acceptors.{mostAcceptors}
+use Rattle.numbers.specs.Coding.{groupsOf, mostOf, lastGroup, groupsFrom, readNumber}
+use Rattle.forms.specs.Forms.{got, testRead, prepend, andThen, row, whole}
+use Rattle.schedule.specs.Schedule.{headerOf, headerNo, events, readSchedule}
+use Rattle.text.specs.Words.{bytes}
+use Rattle.text.specs.Digits.{decimalOf, hexOf}
+use Rattle.model.specs.Records.{fresh}
+use Rattle.model.specs.Table.{from}
+use Rattle.model.proofs.Computing.{theStep, settledAnswers, answers-settled}
+use Rattle.machine.specs.Running.{eventsIn}
+use Rattle.printer.specs.Text.{lines, linesFrom, okCount, refusedCount, runText}
+use Rattle.printer.specs.Printing.{textOfRead, text}
+
+abbrev example : List ℕ
+example =
+    0x02 ∷ 0x01 ∷ 0x01 ∷ 0x10 ∷ 0x02 ∷ 0x07
+    ∷ 0x01 ∷ 0x00 ∷ 0x00 ∷ 0x05 ∷ 0x00 ∷ 0x00 ∷ 0x02 ∷ 0x01 ∷ 0x00 ∷ 0x07 ∷ 0x00 ∷ 0x00
+    ∷ 0x02 ∷ 0x02 ∷ 0x00 ∷ 0x02 ∷ 0x01 ∷ 0x00 ∷ 0x07 ∷ 0x00 ∷ 0x00 ∷ []
+
+numbers-read : readSchedule example ≡ got example 27
+unfolding mostScans mostAcceptors scansInRange sizesInRange groupsOf mostOf lastGroup groupsFrom readNumber testRead prepend andThen row whole headerOf headerNo events readSchedule
+numbers-read = refl
+
+printed : textOfRead (got example 27)
+    ≡ bytes "1 ok\n2 ok\n3 ok\n4 refused 6\n5 ok\n5 learnt 0 0000000000000001\n6 ok\n7 ok\n7 decided 0 0000000000000001\nend 7 6 1\n"
+unfolding textOfRead headerOf from theStep settledAnswers lines linesFrom okCount refusedCount runText decimalOf hexOf bytes
+printed = ap runText (answers-settled (headerOf example .sizes) (fresh (headerOf example .sizes)) (eventsIn (drop 6 example) 7))
+
+pub example-text : text example
+    ≡ bytes "1 ok\n2 ok\n3 ok\n4 refused 6\n5 ok\n5 learnt 0 0000000000000001\n6 ok\n7 ok\n7 decided 0 0000000000000001\nend 7 6 1\n"
+example-text = ap textOfRead numbers-read ∙ printed

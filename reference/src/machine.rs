@@ -3,10 +3,8 @@
 
 use std::iter;
 
-use crate::refusal::{
-    Refusal, CRASHED, NOT_ENABLED, NO_ROOM, NUMBER_SPENT, OUTSIDE_RANGE, OUTSIDE_SIZES, SLOT_FREE,
-    UNKNOWN_CODE,
-};
+use crate::refusal::{Refusal, NO_ROOM, OUTSIDE_RANGE, OUTSIDE_SIZES, SLOT_FREE, UNKNOWN_CODE};
+use crate::roles::{self, test_alive};
 use crate::schedule::{test_sizes, Event, Sizes, GREATEST_A, GREATEST_L, GREATEST_P};
 use crate::sets::{acceptors, scans};
 
@@ -243,7 +241,7 @@ fn test_sizes_and_table(sizes: &Sizes, slots: &[Message]) -> Result<(), Refusal>
     Ok(())
 }
 
-fn proposer_within(sizes: &Sizes, proposer: &Proposer) -> bool {
+pub(crate) fn proposer_within(sizes: &Sizes, proposer: &Proposer) -> bool {
     scans::fits(proposer.buffered, sizes.s)
         && scans::fits(proposer.proposed, sizes.s)
         && scans::fits(proposer.gathered, sizes.s)
@@ -254,11 +252,11 @@ fn proposer_within(sizes: &Sizes, proposer: &Proposer) -> bool {
         && (!proposer.active || proposer.number >= 1)
 }
 
-fn acceptor_within(sizes: &Sizes, acceptor: &Acceptor) -> bool {
+pub(crate) fn acceptor_within(sizes: &Sizes, acceptor: &Acceptor) -> bool {
     scans::fits(acceptor.accepted, sizes.s)
 }
 
-fn learner_within(sizes: &Sizes, learner: &Learner) -> bool {
+pub(crate) fn learner_within(sizes: &Sizes, learner: &Learner) -> bool {
     scans::fits(learner.learnt, sizes.s)
         && learner.heard[..sizes.p as usize].iter().all(|heard| {
             heard.number <= GREATEST_NUMBER
@@ -307,7 +305,7 @@ fn message_within(sizes: &Sizes, message: &Message) -> bool {
     }
 }
 
-// Refusals 3, 4, 5, 7 and 8.
+// Refusals 3, 4 and 8.
 
 /// The index that an argument names among `count`; refused 3 where it is not
 /// below it.
@@ -338,38 +336,11 @@ fn occupied_slot(records: &Records, slots: &[Message], event: &Event) -> Result<
     Ok(slot)
 }
 
-/// The proposer that the event names, b being 0; refused 3, then 5.
+/// The proposer that the event names, b being 0; refused 3.
 fn acting_proposer(records: &Records, event: &Event) -> Result<usize, Refusal> {
     let proposer = index_below(event.a, records.sizes.p)?;
     test_zero(event.b)?;
-    test_alive(records.proposers[proposer].alive)?;
     Ok(proposer)
-}
-
-/// Refused 5 where the party has crashed.
-fn test_alive(alive: bool) -> Result<(), Refusal> {
-    if alive {
-        Ok(())
-    } else {
-        Err(CRASHED)
-    }
-}
-
-/// Refused 6 where the event is not enabled.
-fn test_enabled(enabled: bool) -> Result<(), Refusal> {
-    if enabled {
-        Ok(())
-    } else {
-        Err(NOT_ENABLED)
-    }
-}
-
-/// Refused 7 where the proposal number is already 1,000.
-fn test_number(number: u32) -> Result<(), Refusal> {
-    if number >= GREATEST_NUMBER {
-        return Err(NUMBER_SPENT);
-    }
-    Ok(())
 }
 
 /// Refused 8 where fewer slots are free than `needed`.
@@ -406,7 +377,7 @@ fn receive(
     test_free(slots, sizes.p - 1)?;
 
     let set = scans::one(event.b);
-    proposer.buffered = scans::union(proposer.buffered, set);
+    roles::buffer(proposer, set);
     let others = (0..sizes.p as u32).filter(|other| *other != receiver as u32);
     send(
         slots,
@@ -432,7 +403,7 @@ fn deliver(
             let proposer = &mut records.proposers[message.addressee as usize];
             test_alive(proposer.alive)?;
             slots[slot] = Message::FREE;
-            proposer.buffered = scans::union(proposer.buffered, message.set);
+            roles::buffer(proposer, message.set);
             Ok(Outcome::Done)
         }
         PROPOSAL => deliver_proposal(records, slots, slot),
@@ -440,19 +411,14 @@ fn deliver(
             let proposer = &mut records.proposers[message.addressee as usize];
             test_alive(proposer.alive)?;
             slots[slot] = Message::FREE;
-            if proposer.active && message.number == proposer.number {
-                proposer.acknowledged = acceptors::with(proposer.acknowledged, message.acceptor);
-            }
+            roles::acknowledged(proposer, message.acceptor, message.number);
             Ok(Outcome::Done)
         }
         REJECTION => {
             let proposer = &mut records.proposers[message.addressee as usize];
             test_alive(proposer.alive)?;
             slots[slot] = Message::FREE;
-            if proposer.active && message.number == proposer.number {
-                proposer.rejected = acceptors::with(proposer.rejected, message.acceptor);
-                proposer.gathered = scans::union(proposer.gathered, message.set);
-            }
+            roles::rejected(proposer, message.acceptor, message.number, message.set);
             Ok(Outcome::Done)
         }
         // Every other kind that passes the test of records is kind 5.
@@ -461,7 +427,14 @@ fn deliver(
             let learner = &mut records.learners[message.addressee as usize];
             test_alive(learner.alive)?;
             slots[slot] = Message::FREE;
-            if hear(learner, &message, a) {
+            let Message {
+                proposer,
+                acceptor,
+                number,
+                set,
+                ..
+            } = message;
+            if roles::hear(learner, proposer as usize, acceptor, number, set, a) {
                 return Ok(Outcome::Learnt {
                     learner: u64::from(message.addressee),
                     set: learner.learnt,
@@ -482,59 +455,33 @@ fn deliver_proposal(
     let proposal = slots[slot];
     let acceptor = &mut records.acceptors[proposal.addressee as usize];
     test_alive(acceptor.alive)?;
-    let answer = Message {
-        kind: REJECTION,
+    if roles::accepts(acceptor, proposal.set) {
+        // 1 + L messages, one of them into the slot that is freed.
+        test_free(slots, learners)?;
+    }
+    slots[slot] = Message::FREE;
+    let acknowledged = roles::answer(acceptor, proposal.set);
+    let to_proposer = Message {
+        kind: if acknowledged {
+            ACKNOWLEDGEMENT
+        } else {
+            REJECTION
+        },
         addressee: proposal.proposer,
         proposer: 0,
         acceptor: proposal.addressee,
         number: proposal.number,
-        set: scans::union(acceptor.accepted, proposal.set),
+        set: acceptor.accepted,
     };
-    if scans::contained(acceptor.accepted, proposal.set) {
-        // 1 + L messages, one of them into the slot that is freed.
-        test_free(slots, learners)?;
-        slots[slot] = Message::FREE;
-        acceptor.accepted = proposal.set;
-        let to_proposer = Message {
-            kind: ACKNOWLEDGEMENT,
-            set: proposal.set,
-            ..answer
-        };
-        let to_learners = (0..learners as u32).map(|learner| Message {
-            kind: ACKNOWLEDGEMENT_TO_LEARNER,
-            addressee: learner,
-            proposer: proposal.proposer,
-            acceptor: proposal.addressee,
-            number: proposal.number,
-            set: proposal.set,
-        });
-        send(slots, iter::once(to_proposer).chain(to_learners));
-    } else {
-        slots[slot] = Message::FREE;
-        acceptor.accepted = answer.set;
-        send(slots, iter::once(answer));
-    }
+    let told = if acknowledged { learners as u32 } else { 0 };
+    let to_learners = (0..told).map(|learner| Message {
+        kind: ACKNOWLEDGEMENT_TO_LEARNER,
+        addressee: learner,
+        proposer: proposal.proposer,
+        ..to_proposer
+    });
+    send(slots, iter::once(to_proposer).chain(to_learners));
     Ok(Outcome::Done)
-}
-
-/// The learner hears an acknowledgement: whether its learnt set changed.
-fn hear(learner: &mut Learner, message: &Message, a: u32) -> bool {
-    let heard = &mut learner.heard[message.proposer as usize];
-    if message.number < heard.number {
-        return false;
-    }
-    if message.number > heard.number {
-        heard.number = message.number;
-        heard.set = message.set;
-        heard.acceptors = acceptors::EMPTY;
-    }
-    heard.acceptors = acceptors::with(heard.acceptors, message.acceptor);
-    let learns = acceptors::is_majority(heard.acceptors, a)
-        && scans::strictly_contained(learner.learnt, heard.set);
-    if learns {
-        learner.learnt = heard.set;
-    }
-    learns
 }
 
 fn drop_message(
@@ -563,17 +510,10 @@ fn propose(
     let a = records.sizes.a;
     let index = acting_proposer(records, event)?;
     let proposer = &mut records.proposers[index];
-    test_enabled(!proposer.active && !scans::is_empty(proposer.buffered))?;
-    test_number(proposer.number)?;
+    roles::test_propose(proposer)?;
     test_free(slots, a)?;
 
-    proposer.number += 1;
-    proposer.proposed = scans::union(proposer.proposed, proposer.buffered);
-    proposer.buffered = scans::EMPTY;
-    proposer.gathered = scans::EMPTY;
-    proposer.acknowledged = acceptors::EMPTY;
-    proposer.rejected = acceptors::EMPTY;
-    proposer.active = true;
+    roles::propose(proposer);
     send_proposals(slots, index, proposer, a);
     Ok(Outcome::Done)
 }
@@ -582,20 +522,10 @@ fn refine(records: &mut Records, slots: &mut [Message], event: &Event) -> Result
     let a = records.sizes.a;
     let index = acting_proposer(records, event)?;
     let proposer = &mut records.proposers[index];
-    let answered = acceptors::union(proposer.acknowledged, proposer.rejected);
-    test_enabled(
-        proposer.active
-            && !acceptors::is_empty(proposer.rejected)
-            && acceptors::is_majority(answered, a as u32),
-    )?;
-    test_number(proposer.number)?;
+    roles::test_refine(proposer, a as u32)?;
     test_free(slots, a)?;
 
-    proposer.number += 1;
-    proposer.proposed = scans::union(proposer.proposed, proposer.gathered);
-    proposer.gathered = scans::EMPTY;
-    proposer.acknowledged = acceptors::EMPTY;
-    proposer.rejected = acceptors::EMPTY;
+    roles::refine(proposer);
     send_proposals(slots, index, proposer, a);
     Ok(Outcome::Done)
 }
@@ -619,10 +549,9 @@ fn decide(records: &mut Records, event: &Event) -> Result<Outcome, Refusal> {
     let a = records.sizes.a as u32;
     let index = acting_proposer(records, event)?;
     let proposer = &mut records.proposers[index];
-    test_enabled(proposer.active && acceptors::is_majority(proposer.acknowledged, a))?;
+    roles::test_decide(proposer, a)?;
 
-    proposer.decided = proposer.proposed;
-    proposer.active = false;
+    roles::decide(proposer);
     Ok(Outcome::Decided {
         proposer: event.a,
         set: proposer.decided,

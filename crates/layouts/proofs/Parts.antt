@@ -1,0 +1,104 @@
+-- What the proofs of several functions cite.
+use mathlib.Core.Bool.{Bool, true, false, not}
+use mathlib.Core.List.{List, append-nil}
+use mathlib.Core.Path.{_≡_, refl, sym, ap, _∙_}
+use Prim.Native.Nat.{ℕ, zero, suc, _+_, _/_, _≤_, _<_}
+use native.Mathlib.Omega.{arith}
+use lib.ListN.{length, set, drop-of-length-le}
+use lib.Seq.{sets, sets-eq}
+use mir.Val.{boolByte}
+use borrow.Author.Tests.{ltb-true, leb-true, eqb-true, not-true, not-false}
+use Rattle.choice.specs.Choice.{if_then_else_}
+use Rattle.sets.specs.Acceptors.{mostAcceptors}
+use Rattle.sizes.specs.Sizes.{sizesInRange}
+use Rattle.model.specs.declared.Proposer.{Proposer}
+use Rattle.model.proofs.Cases.{and-l, and-r}
+use Rattle.layouts.specs.Layout.{sizesOf, wordBytes, setBytes, numberBytes, acceptorsBytes, flagBytes, isSet, isAnswer, isAcceptor, isProposer, proposerBytes, placeOf, isLearner}
+
+-- ---- a test by a function, in what its result is
+
+pub passed : {r t : Bool} → r ≡ t → not r ≡ false → t ≡ true
+passed {r} e h = sym e ∙ not-false r h
+
+pub failed : {r t : Bool} → r ≡ t → not r ≡ true → t ≡ false
+failed {r} e h = sym e ∙ not-true r h
+
+-- ---- bytes
+
+pub flag-byte : (t : Bool) → boolByte t ≡ (if t then 1 else 0)
+flag-byte true = refl
+flag-byte false = refl
+
+pub stored-flag : (bytes : List ℕ) (at : ℕ) (t : Bool) → set bytes at (boolByte t) ≡ sets bytes at (flagBytes t)
+stored-flag bytes at t = ap (λ (n : ℕ). set bytes at n) (flag-byte t)
+
+pub length-word : (n word : ℕ) → length (wordBytes n word) ≡ n
+unfolding wordBytes
+length-word zero word = refl
+length-word (suc n) word = ap suc (length-word n (word / 256))
+
+-- bytes that are all put are those that were put
+pub put-whole : (bytes new : List ℕ) → length bytes ≡ length new → sets bytes 0 new ≡ new
+put-whole bytes new e =
+    let q : length bytes ≤ 0 + length new = omega arith in
+    sets-eq new bytes 0 (omega arith) ∙ rw (drop-of-length-le bytes q) (append-nil new)
+
+-- ---- the lengths of what passed its tests
+
+pub set-length : (s : ℕ) (bytes : List ℕ) → isSet s bytes ≡ true → length bytes ≡ 8
+unfolding isSet
+set-length s bytes e = search (and-l, eqb-true) depth 9
+
+pub acceptor-length : (s : ℕ) (bytes : List ℕ) → isAcceptor s bytes ≡ true → length bytes ≡ 9
+unfolding isAcceptor
+acceptor-length s bytes e = search (and-l, and-r, eqb-true) depth 9
+
+pub proposer-length : (a s : ℕ) (bytes : List ℕ) → isProposer a s bytes ≡ true → length bytes ≡ 38
+unfolding isProposer
+proposer-length a s bytes e = search (and-l, and-r, eqb-true) depth 9
+
+pub learner-length : (p a s : ℕ) (bytes : List ℕ) → isLearner p a s bytes ≡ true → length bytes ≡ placeOf p
+unfolding isLearner
+learner-length p a s bytes e = search (and-l, and-r, eqb-true) depth 9
+
+-- ---- the arguments of what passed its tests
+
+-- a run has at most 8 proposers and 7 acceptors
+pub few-proposers : (p a s : ℕ) → sizesInRange (sizesOf p a s) ≡ true → p ≤ 8
+unfolding sizesInRange
+few-proposers p a s e = search (and-l, and-r, leb-true) depth 9
+
+pub few-acceptors : (p a s : ℕ) → sizesInRange (sizesOf p a s) ≡ true → a ≤ 7
+unfolding sizesInRange mostAcceptors
+few-acceptors p a s e = search (and-l, and-r, leb-true) depth 9
+
+pub proposer-sizes : (a s : ℕ) (bytes : List ℕ) → isProposer a s bytes ≡ true → sizesInRange (sizesOf 1 a s) ≡ true
+unfolding isProposer
+proposer-sizes a s bytes e = search (and-l, and-r) depth 9
+
+pub learner-sizes : (p a s : ℕ) (bytes : List ℕ) → isLearner p a s bytes ≡ true → sizesInRange (sizesOf p a s) ≡ true
+unfolding isLearner
+learner-sizes p a s bytes e = search (and-l, and-r) depth 9
+
+pub answer-acceptor : (a j n : ℕ) → isAnswer a j n ≡ true → j < a
+answer-acceptor a j n e = search (and-l, ltb-true) depth 9
+
+pub answer-number : (a j n : ℕ) → isAnswer a j n ≡ true → n ≤ 1_000
+answer-number a j n e = search (and-l, and-r, leb-true) depth 9
+
+-- ---- the fields of a proposer's record, put one after the other
+
+pub put-fields : (b₀ : List ℕ) {b₁ b₂ b₃ b₄ b₅ b₆ b₇ b₈ b₉ : List ℕ} (p : Proposer) → length b₀ ≡ 38
+    → b₁ ≡ sets b₀ 0 (flagBytes (p .alive))
+    → b₂ ≡ sets b₁ 1 (flagBytes (p .active))
+    → b₃ ≡ sets b₂ 2 (setBytes (p .buffered))
+    → b₄ ≡ sets b₃ 10 (setBytes (p .proposed))
+    → b₅ ≡ sets b₄ 18 (setBytes (p .gathered))
+    → b₆ ≡ sets b₅ 26 (numberBytes (p .number))
+    → b₇ ≡ sets b₆ 28 (acceptorsBytes (p .acknowledged))
+    → b₈ ≡ sets b₇ 29 (acceptorsBytes (p .rejected))
+    → b₉ ≡ sets b₈ 30 (setBytes (p .decided))
+    → b₉ ≡ proposerBytes p
+unfolding wordBytes proposerBytes
+put-fields b₀ p e e₁ e₂ e₃ e₄ e₅ e₆ e₇ e₈ e₉ =
+    e₉ ∙ ap (λ (l : List ℕ). sets l 30 (setBytes (p .decided))) (e₈ ∙ ap (λ (l : List ℕ). sets l 29 (acceptorsBytes (p .rejected))) (e₇ ∙ ap (λ (l : List ℕ). sets l 28 (acceptorsBytes (p .acknowledged))) (e₆ ∙ ap (λ (l : List ℕ). sets l 26 (numberBytes (p .number))) (e₅ ∙ ap (λ (l : List ℕ). sets l 18 (setBytes (p .gathered))) (e₄ ∙ ap (λ (l : List ℕ). sets l 10 (setBytes (p .proposed))) (e₃ ∙ ap (λ (l : List ℕ). sets l 2 (setBytes (p .buffered))) (e₂ ∙ ap (λ (l : List ℕ). sets l 1 (flagBytes (p .active))) e₁))))))) ∙ put-whole b₀ (proposerBytes p) e

@@ -1,0 +1,96 @@
+-- How the loops over a learner's places go.
+use mathlib.Core.List.{List, [], _∷_, _++_, append-assoc, append-nil}
+use mathlib.Core.Path.{_≡_, refl, sym, ap, _∙_}
+use Prim.Native.Nat.{ℕ, zero, suc, _+_, _-_, _*_, _≤_, _<_}
+use native.Mathlib.Numerals.{add-one}
+use native.Mathlib.Omega.{arith}
+use lib.ListN.{length, getD, set, take, replicate, length-append, length-replicate}
+use lib.Seq.{sets, take-suc, length-take-le, set-at, append-snoc}
+use Rattle.forms.proofs.Steps.{sets-append}
+use Rattle.model.specs.Records.{unheard}
+use Rattle.model.specs.declared.Heard.{Heard}
+use Rattle.model.specs.declared.Learner.{Learner}
+use Rattle.layouts.specs.Layout.{wordBytes, setBytes, numberBytes, acceptorsBytes, flagBytes, flagged, placeOf, heardBytes, heardAt, placesBytes, placesAt, learnerBytes}
+use Rattle.layouts.proofs.Parts.{put-whole}
+
+-- ---- reading
+
+pub length-places-at : (n : ℕ) (bytes : List ℕ) → length (placesAt n bytes) ≡ n
+unfolding placesAt
+length-places-at zero bytes = refl
+length-places-at (suc n) bytes =
+    length-append (placesAt n bytes) (heardAt bytes (placeOf n) ∷ []) ∙ omega (arith, length-places-at n bytes)
+
+-- the first i places are read, of eight
+abbrev pub places : ℕ → List ℕ → List Heard
+places i bytes = placesAt i bytes ++ replicate (8 - i) unheard
+
+pub eight-read : (i : ℕ) (bytes : List ℕ) → i ≤ 8 → length (places i bytes) ≡ 8
+eight-read i bytes h =
+    length-append (placesAt i bytes) (replicate (8 - i) unheard) ∙ omega (arith, length-places-at i bytes, length-replicate (8 - i) unheard)
+
+pub read-place : (i : ℕ) (bytes : List ℕ) → i < 8 → set (places i bytes) i (heardAt bytes (placeOf i)) ≡ places (i + 1) bytes
+unfolding placesAt
+read-place i bytes h =
+    let p : 8 - i ≡ suc (8 - (i + 1)) = omega arith in
+    rw (p, add-one i) (set-at (placesAt i bytes) unheard (replicate (8 - suc i) unheard) (heardAt bytes (placeOf i)) i (length-places-at i bytes) ∙ sym (append-snoc (placesAt i bytes) (heardAt bytes (placeOf i)) (replicate (8 - suc i) unheard)))
+
+-- ---- writing
+
+pub length-heard : (h : Heard) → length (heardBytes h) ≡ 11
+unfolding wordBytes heardBytes
+length-heard h = refl
+
+pub length-places : (hs : List Heard) → length (placesBytes hs) ≡ 11 * length hs
+unfolding placesBytes
+length-places [] = refl
+length-places (h ∷ hs) = length-append (heardBytes h) (placesBytes hs) ∙ omega (arith, length-heard h, length-places hs)
+
+pub places-append : (hs ks : List Heard) → placesBytes (hs ++ ks) ≡ placesBytes hs ++ placesBytes ks
+unfolding placesBytes
+places-append [] ks = refl
+places-append (h ∷ hs) ks = ap (λ (l : List ℕ). heardBytes h ++ l) (places-append hs ks) ∙ sym (append-assoc (heardBytes h) (placesBytes hs) (placesBytes ks))
+
+-- the place after the first i
+pub put-place : (kept : List ℕ) (hs : List Heard) (i : ℕ) → i < length hs
+    → sets (sets kept 9 (placesBytes (take i hs))) (placeOf i) (heardBytes (getD hs i unheard)) ≡ sets kept 9 (placesBytes (take (i + 1) hs))
+unfolding placesBytes
+put-place kept hs i h =
+    let us = placesBytes (take i hs) in
+    let v = heardBytes (getD hs i unheard) in
+    let n : placeOf i ≡ 9 + length us = omega (arith, length-places (take i hs), length-take-le i hs (omega arith)) in
+    let e : placesBytes (take (suc i) hs) ≡ us ++ v = ap placesBytes (take-suc hs i unheard h) ∙ places-append (take i hs) (getD hs i unheard ∷ []) ∙ ap (λ (l : List ℕ). us ++ l) (append-nil v) in
+    rw (add-one i, e, n) (sym (sets-append us v kept 9))
+
+-- the three fields of a place, put one after the other
+pub put-heard-fields : (b₀ : List ℕ) (at : ℕ) {b₁ b₂ b₃ : List ℕ} (h : Heard)
+    → b₁ ≡ sets b₀ at (numberBytes (h .number))
+    → b₂ ≡ sets b₁ (at + 2) (setBytes (h .set))
+    → b₃ ≡ sets b₂ (at + 10) (acceptorsBytes (h .acceptors))
+    → b₃ ≡ sets b₀ at (heardBytes h)
+unfolding wordBytes heardBytes
+put-heard-fields b₀ at h e₁ e₂ e₃ =
+    let n = numberBytes (h .number) in
+    let v = setBytes (h .set) in
+    let q = acceptorsBytes (h .acceptors) in
+    e₃ ∙ ap (λ (l : List ℕ). sets l (at + 10) q) (e₂ ∙ ap (λ (l : List ℕ). sets l (at + 2) v) e₁ ∙ sym (sets-append n v b₀ at)) ∙ sym (sets-append (n ++ v) q b₀ at)
+
+pub length-learner : (p : ℕ) (l : Learner) → p ≤ length (l .heard) → length (learnerBytes p l) ≡ placeOf p
+unfolding wordBytes learnerBytes
+length-learner p l h =
+    let hs = take p (l .heard) in
+    length-append (flagged (l .alive) (l .learnt)) (placesBytes hs) ∙ omega (arith, length-places hs, length-take-le p (l .heard) h)
+
+-- the parts of a learner's record, put one after the other
+pub put-learner-parts : (b₀ : List ℕ) (p : ℕ) {b₁ b₂ b₃ : List ℕ} (l : Learner) → p ≤ length (l .heard) → length b₀ ≡ placeOf p
+    → b₁ ≡ sets b₀ 0 (flagBytes (l .alive))
+    → b₂ ≡ sets b₁ 1 (setBytes (l .learnt))
+    → b₃ ≡ sets b₂ 9 (placesBytes (take p (l .heard)))
+    → b₃ ≡ learnerBytes p l
+unfolding wordBytes learnerBytes
+put-learner-parts b₀ p l h e e₁ e₂ e₃ =
+    let hs = placesBytes (take p (l .heard)) in
+    e₃
+    ∙ ap (λ (b : List ℕ). sets b 9 hs) (e₂ ∙ ap (λ (b : List ℕ). sets b 1 (setBytes (l .learnt))) e₁)
+    ∙ sym (sets-append (flagged (l .alive) (l .learnt)) hs b₀ 0)
+    ∙ put-whole b₀ (learnerBytes p l) (e ∙ sym (length-learner p l h))

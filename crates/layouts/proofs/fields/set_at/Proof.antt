@@ -1,0 +1,12 @@
+use borrow.Author.Needs.{needs}
+use Rattle.layouts.proofs.fields.set_at.Statement.{statement}
+use Rattle.layouts.proofs.fields.set_at.Tie as tie
+
+word-at-requires : tie.Need-word-at-requires
+word-at-requires c κs = search needs
+
+returns : tie.Need-returns
+returns c = cc
+
+pub set-at-spec : {M : Type 1} → statement M
+set-at-spec = tie.close (tie.spec word-at-requires returns)

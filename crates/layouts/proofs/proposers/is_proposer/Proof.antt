@@ -1,0 +1,93 @@
+use mathlib.Core.Bool.{true, false}
+use mathlib.Core.Path.{_≡_, ap, _∙_}
+use borrow.Author.Tests.{eq-eqb, ne-eqb}
+use borrow.Author.Needs.{needs}
+use Rattle.sizes.specs.Sizes.{sizesInRange}
+use Rattle.layouts.specs.Layout.{sizesOf, isProposer}
+use Rattle.layouts.proofs.Parts.{passed, failed}
+use Rattle.layouts.proofs.proposers.is_proposer.Statement.{statement}
+use Rattle.layouts.proofs.proposers.is_proposer.Tie as tie
+
+sizes-of-requires : tie.Need-sizes-of-requires
+sizes-of-requires c κs = search needs
+
+in-range-requires : tie.Need-in-range-requires
+in-range-requires c κs = search needs
+
+returns : tie.Need-returns
+unfolding isProposer
+returns c =
+    let s = c .before .before .before .before in
+    let z = c .before .before .sizes-of .ensures in
+    let e : sizesInRange (sizesOf 1 (s .args .acceptors) (s .args .scans)) ≡ false = failed (c .before .in-range .ensures ∙ ap sizesInRange z) (c .if1 .taken) in
+    simp e
+
+returns-2 : tie.Need-returns-2
+unfolding isProposer
+returns-2 c =
+    let t₁ = c .before in
+    let s = t₁ .before .before .before .before in
+    let z = t₁ .before .before .sizes-of .ensures in
+    let e : sizesInRange (sizesOf 1 (s .args .acceptors) (s .args .scans)) ≡ true = passed (t₁ .before .in-range .ensures ∙ ap sizesInRange z) (t₁ .if1 .left) in
+    simp (e, ne-eqb _ _ (c .if2 .taken))
+
+is-flag-requires : tie.Need-is-flag-requires
+is-flag-requires c κs = search needs
+
+returns-3 : tie.Need-returns-3
+unfolding isProposer
+returns-3 c =
+    let t₂ = c .before .before in
+    let t₁ = t₂ .before in
+    let s = t₁ .before .before .before .before in
+    let z = t₁ .before .before .sizes-of .ensures in
+    let e : sizesInRange (sizesOf 1 (s .args .acceptors) (s .args .scans)) ≡ true = passed (t₁ .before .in-range .ensures ∙ ap sizesInRange z) (t₁ .if1 .left) in
+    simp (e, eq-eqb _ _ (t₂ .if2 .left), failed (c .before .is-flag .ensures) (c .if3 .taken))
+
+is-flag-requires-2 : tie.Need-is-flag-requires-2
+is-flag-requires-2 c κs = search needs
+
+returns-4 : tie.Need-returns-4
+unfolding isProposer
+returns-4 c =
+    let t₃ = c .before .before in
+    let t₂ = t₃ .before .before in
+    let t₁ = t₂ .before in
+    let s = t₁ .before .before .before .before in
+    let z = t₁ .before .before .sizes-of .ensures in
+    let e : sizesInRange (sizesOf 1 (s .args .acceptors) (s .args .scans)) ≡ true = passed (t₁ .before .in-range .ensures ∙ ap sizesInRange z) (t₁ .if1 .left) in
+    simp (e, eq-eqb _ _ (t₂ .if2 .left), passed (t₃ .before .is-flag .ensures) (t₃ .if3 .left), failed (c .before .is-flag2 .ensures) (c .if4 .taken))
+
+proposer-at-requires : tie.Need-proposer-at-requires
+proposer-at-requires c κs = search needs
+
+in-range-requires-2 : tie.Need-in-range-requires-2
+in-range-requires-2 c κs = search needs
+
+returns-5 : tie.Need-returns-5
+unfolding isProposer
+returns-5 c =
+    let t₄ = c .before .before in
+    let t₃ = t₄ .before .before in
+    let t₂ = t₃ .before .before in
+    let t₁ = t₂ .before in
+    let s = t₁ .before .before .before .before in
+    let z = t₁ .before .before .sizes-of .ensures in
+    let e : sizesInRange (sizesOf 1 (s .args .acceptors) (s .args .scans)) ≡ true = passed (t₁ .before .in-range .ensures ∙ ap sizesInRange z) (t₁ .if1 .left) in
+    simp (e, eq-eqb _ _ (t₂ .if2 .left), passed (t₃ .before .is-flag .ensures) (t₃ .if3 .left), passed (t₄ .before .is-flag2 .ensures) (t₄ .if4 .left)) (simp (c .in-range2 .ensures, c .before .proposer-at .ensures, z))
+
+pub is-proposer-spec : {M : Type 1} → statement M
+is-proposer-spec =
+    tie.close
+    (tie.spec
+    sizes-of-requires
+    in-range-requires
+    returns
+    returns-2
+    is-flag-requires
+    returns-3
+    is-flag-requires-2
+    returns-4
+    proposer-at-requires
+    in-range-requires-2
+    returns-5)

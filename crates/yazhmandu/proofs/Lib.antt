@@ -1,0 +1,3 @@
+-- What the proofs of several calls cite, and that the records which the server keeps stay within their ranges.
+pub mod Verdicts
+pub mod RecordsKept

@@ -1,0 +1,185 @@
+use mathlib.Core.Path.{ap, _∙_}
+use native.Mathlib.Omega.{arith}
+use borrow.Author.Tests.{lt-ltb, le-ltb}
+use borrow.Author.Needs.{needs}
+use Rattle.model.specs.declared.Learner.{Learner}
+use Rattle.layouts.specs.Layout.{isLearner}
+use Rattle.layouts.proofs.Parts.{passed, failed, flag-byte, set-length, learner-length, learner-sizes, few-proposers, few-acceptors, answer-acceptor, answer-number}
+use Rattle.yazhmandu.specs.Calls.{hearNo, hearRecord, hearLearns}
+use Rattle.yazhmandu.proofs.learner_call.ymd_hear.Statement.{statement}
+use Rattle.yazhmandu.proofs.learner_call.ymd_hear.Tie as tie
+
+is-learner-requires : tie.Need-is-learner-requires
+is-learner-requires c κs = search needs
+
+same-length : tie.Need-same-length
+same-length c = search needs
+
+returns : tie.Need-returns
+unfolding hearNo hearRecord hearLearns
+returns c =
+    let e = failed (c .before .is-learner .ensures) (c .if1 .taken) in
+    (simp e, simp e, simp e)
+
+same-length-2 : tie.Need-same-length-2
+same-length-2 c = search needs
+
+returns-2 : tie.Need-returns-2
+unfolding hearNo hearRecord hearLearns
+returns-2 c =
+    let e = passed (c .before .before .is-learner .ensures) (c .before .if1 .left) in
+    let f = le-ltb _ _ (c .if2 .taken) in
+    (simp (e, f), simp (e, f), simp (e, f))
+
+is-answer-requires : tie.Need-is-answer-requires
+is-answer-requires c κs = search needs
+
+same-length-3 : tie.Need-same-length-3
+same-length-3 c = search needs
+
+returns-3 : tie.Need-returns-3
+unfolding hearNo hearRecord hearLearns
+returns-3 c =
+    let t₂ = c .before .before in
+    let t₁ = t₂ .before in
+    let e = passed (t₁ .before .is-learner .ensures) (t₁ .if1 .left) in
+    let f = lt-ltb _ _ (t₂ .if2 .left) in
+    let g = failed (c .before .is-answer .ensures) (c .if3 .taken) in
+    (simp (e, f, g), simp (e, f, g), simp (e, f, g))
+
+is-set-requires : tie.Need-is-set-requires
+is-set-requires c κs = search needs
+
+same-length-4 : tie.Need-same-length-4
+same-length-4 c = search needs
+
+returns-4 : tie.Need-returns-4
+unfolding hearNo hearRecord hearLearns
+returns-4 c =
+    let t₃ = c .before .before in
+    let t₂ = t₃ .before .before in
+    let t₁ = t₂ .before in
+    let e = passed (t₁ .before .is-learner .ensures) (t₁ .if1 .left) in
+    let f = lt-ltb _ _ (t₂ .if2 .left) in
+    let g = passed (t₃ .before .is-answer .ensures) (t₃ .if3 .left) in
+    let h = failed (c .before .is-set .ensures) (c .if4 .taken) in
+    (simp (e, f, g, h), simp (e, f, g, h), simp (e, f, g, h))
+
+learner-at-requires : tie.Need-learner-at-requires
+learner-at-requires c κs =
+    let t₁ = c .before .before .before .before .before .before in
+    let a = t₁ .before .before .before .before .before .args in
+    let e = passed {t = isLearner (a .proposers) (a .acceptors) (a .scans) (a .kept .now)} (t₁ .before .is-learner .ensures) (t₁ .if1 .left) in
+    (few-proposers (a .proposers) (a .acceptors) (a .scans) (learner-sizes (a .proposers) (a .acceptors) (a .scans) (a .kept .now) e), learner-length (a .proposers) (a .acceptors) (a .scans) (a .kept .now) e)
+
+same-length-5 : tie.Need-same-length-5
+same-length-5 c = search needs
+
+returns-5 : tie.Need-returns-5
+unfolding hearNo hearRecord hearLearns
+returns-5 c =
+    let t₄ = c .before .before .before .before in
+    let t₃ = t₄ .before .before in
+    let t₂ = t₃ .before .before in
+    let t₁ = t₂ .before in
+    let a = t₁ .before .before .before .before .before .args in
+    let e = passed {t = isLearner (a .proposers) (a .acceptors) (a .scans) (a .kept .now)} (t₁ .before .is-learner .ensures) (t₁ .if1 .left) in
+    let f = lt-ltb _ _ (t₂ .if2 .left) in
+    let g = passed (t₃ .before .is-answer .ensures) (t₃ .if3 .left) in
+    let h = passed (t₄ .before .is-set .ensures) (t₄ .if4 .left) in
+    let i = failed (ap (λ (l : Learner). l .alive) (c .before .before .learner-at .ensures)) (c .if5 .taken) in
+    (simp (e, f, g, h, i), simp (e, f, g, h, i), simp (e, f, g, h, i))
+
+cast-learns : tie.Need-cast-learns
+cast-learns c =
+    let t₂ = c .before .before .before .before .before .before .before .before in
+    let t₁ = t₂ .before in
+    let a = t₁ .before .before .before .before .before .args in
+    let e = passed {t = isLearner (a .proposers) (a .acceptors) (a .scans) (a .kept .now)} (t₁ .before .is-learner .ensures) (t₁ .if1 .left) in
+    omega (arith, t₂ .if2 .left, few-proposers (a .proposers) (a .acceptors) (a .scans) (learner-sizes (a .proposers) (a .acceptors) (a .scans) (a .kept .now) e))
+
+cast-t22 : tie.Need-cast-t22
+cast-t22 c =
+    let t₃ = c .before .before .before .before .before .before in
+    let t₁ = t₃ .before .before .before in
+    let a = t₁ .before .before .before .before .before .args in
+    let e = passed {t = isLearner (a .proposers) (a .acceptors) (a .scans) (a .kept .now)} (t₁ .before .is-learner .ensures) (t₁ .if1 .left) in
+    omega (arith, answer-acceptor (a .acceptors) (a .acceptor) (a .number) (passed (t₃ .before .is-answer .ensures) (t₃ .if3 .left)), few-acceptors (a .proposers) (a .acceptors) (a .scans) (learner-sizes (a .proposers) (a .acceptors) (a .scans) (a .kept .now) e))
+
+cast-t24 : tie.Need-cast-t24
+cast-t24 c =
+    let t₃ = c .before .before .before .before .before .before in
+    let a = t₃ .before .before .before .before .before .before .before .before .args in
+    omega (arith, answer-number (a .acceptors) (a .acceptor) (a .number) (passed (t₃ .before .is-answer .ensures) (t₃ .if3 .left)))
+
+set-at-requires : tie.Need-set-at-requires
+set-at-requires c κs =
+    let t₄ = c .before .before .before .before in
+    let a = t₄ .before .before .before .before .before .before .before .before .before .before .args in
+    omega (arith, set-length (a .scans) (a .set .now) (passed (t₄ .before .is-set .ensures) (t₄ .if4 .left)))
+
+learns-requires : tie.Need-learns-requires
+learns-requires c κs = search needs
+
+cast-learns-2 : tie.Need-cast-learns-2
+cast-learns-2 c = search needs
+
+hear-requires : tie.Need-hear-requires
+hear-requires c κs = search needs
+
+put-learner-requires : tie.Need-put-learner-requires
+put-learner-requires c κs =
+    let t₁ = c .before .before .before .before .before .before .before .before .before .before .before .before .before in
+    let a = t₁ .before .before .before .before .before .args in
+    let e = passed {t = isLearner (a .proposers) (a .acceptors) (a .scans) (a .kept .now)} (t₁ .before .is-learner .ensures) (t₁ .if1 .left) in
+    (few-proposers (a .proposers) (a .acceptors) (a .scans) (learner-sizes (a .proposers) (a .acceptors) (a .scans) (a .kept .now) e), learner-length (a .proposers) (a .acceptors) (a .scans) (a .kept .now) e)
+
+same-length-6 : tie.Need-same-length-6
+same-length-6 c = search needs
+
+returns-6 : tie.Need-returns-6
+unfolding hearNo hearRecord hearLearns
+returns-6 c =
+    let t₅ = c .before .before .before .before .before .before .before in
+    let t₄ = t₅ .before .before .before .before in
+    let t₃ = t₄ .before .before in
+    let t₂ = t₃ .before .before in
+    let t₁ = t₂ .before in
+    let a = t₁ .before .before .before .before .before .args in
+    let e = passed {t = isLearner (a .proposers) (a .acceptors) (a .scans) (a .kept .now)} (t₁ .before .is-learner .ensures) (t₁ .if1 .left) in
+    let f = lt-ltb _ _ (t₂ .if2 .left) in
+    let g = passed (t₃ .before .is-answer .ensures) (t₃ .if3 .left) in
+    let h = passed (t₄ .before .is-set .ensures) (t₄ .if4 .left) in
+    let i = passed (ap (λ (l : Learner). l .alive) (t₅ .before .before .learner-at .ensures)) (t₅ .if5 .left) in
+    let given = c .before .before .before .before .before .before .set-at .ensures in
+    let before = t₅ .before .before .learner-at .ensures in
+    (simp (e, f, g, h, i), simp (e, f, g, h, i) (simp (c .before .before .put-learner .ensures, c .before .before .before .hear .ensures, given, before)), simp (e, f, g, h, i) (flag-byte (c .before .before .before .before .before .learns .result) ∙ simp (c .before .before .before .before .before .learns .ensures, given, before)))
+
+pub ymd-hear-spec : {M : Type 1} → statement M
+ymd-hear-spec =
+    tie.close
+    (tie.spec
+    is-learner-requires
+    same-length
+    returns
+    same-length-2
+    returns-2
+    is-answer-requires
+    same-length-3
+    returns-3
+    is-set-requires
+    same-length-4
+    returns-4
+    learner-at-requires
+    same-length-5
+    returns-5
+    cast-learns
+    cast-t22
+    cast-t24
+    set-at-requires
+    learns-requires
+    cast-learns-2
+    hear-requires
+    put-learner-requires
+    same-length-6
+    returns-6)

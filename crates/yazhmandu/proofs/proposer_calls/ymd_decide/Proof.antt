@@ -1,0 +1,80 @@
+use mathlib.Core.Path.{sym, ap, _∙_}
+use borrow.Author.Needs.{needs}
+use Rattle.model.specs.Rules.{decideNo, afterDecide}
+use Rattle.model.proofs.Enabled.{is-zero, not-zero}
+use Rattle.layouts.proofs.Parts.{passed, failed, proposer-length}
+use Rattle.yazhmandu.specs.Calls.{decideCallNo, decideRecord}
+use Rattle.yazhmandu.proofs.proposer_calls.ymd_decide.Statement.{statement}
+use Rattle.yazhmandu.proofs.proposer_calls.ymd_decide.Tie as tie
+
+is-proposer-requires : tie.Need-is-proposer-requires
+is-proposer-requires c κs = search needs
+
+same-length : tie.Need-same-length
+same-length c = search needs
+
+returns : tie.Need-returns
+unfolding decideCallNo decideRecord
+returns c =
+    let e = failed (c .before .is-proposer .ensures) (c .if1 .taken) in
+    (simp e, simp e)
+
+proposer-at-requires : tie.Need-proposer-at-requires
+proposer-at-requires c κs =
+    let t₁ = c .before in
+    let a = t₁ .before .before .before .before .args in
+    proposer-length (a .acceptors) (a .scans) (a .kept .now) (passed (t₁ .before .is-proposer .ensures) (t₁ .if1 .left))
+
+decide-no-requires : tie.Need-decide-no-requires
+decide-no-requires c κs = search needs
+
+same-length-2 : tie.Need-same-length-2
+same-length-2 c = search needs
+
+returns-2 : tie.Need-returns-2
+unfolding decideCallNo decideRecord
+returns-2 c =
+    let t₁ = c .before .before .before .before in
+    let s = t₁ .before .before .before .before in
+    let e = passed (t₁ .before .is-proposer .ensures) (t₁ .if1 .left) in
+    let n = c .before .decide-no .ensures ∙ ap (decideNo (s .args .acceptors)) (c .before .before .proposer-at .ensures) in
+    (simp e n, simp (e, not-zero n (c .if2 .taken)))
+
+decide-requires : tie.Need-decide-requires
+decide-requires c κs = search needs
+
+put-proposer-requires : tie.Need-put-proposer-requires
+put-proposer-requires c κs =
+    let t₁ = c .before .before .before .before .before .before in
+    let a = t₁ .before .before .before .before .args in
+    proposer-length (a .acceptors) (a .scans) (a .kept .now) (passed (t₁ .before .is-proposer .ensures) (t₁ .if1 .left))
+
+same-length-3 : tie.Need-same-length-3
+same-length-3 c = search needs
+
+returns-3 : tie.Need-returns-3
+unfolding decideCallNo decideRecord afterDecide
+returns-3 c =
+    let t₂ = c .before .before .before .before .before in
+    let t₁ = t₂ .before .before .before .before in
+    let s = t₁ .before .before .before .before in
+    let e = passed (t₁ .before .is-proposer .ensures) (t₁ .if1 .left) in
+    let n = t₂ .before .decide-no .ensures ∙ ap (decideNo (s .args .acceptors)) (t₂ .before .before .proposer-at .ensures) in
+    let z = is-zero n (t₂ .if2 .left) in
+    (simp e (sym (t₂ .if2 .left) ∙ n), simp (e, z) (simp (c .before .before .put-proposer .ensures, c .before .before .before .decide .ensures, t₂ .before .before .proposer-at .ensures, z)))
+
+pub ymd-decide-spec : {M : Type 1} → statement M
+ymd-decide-spec =
+    tie.close
+    (tie.spec
+    is-proposer-requires
+    same-length
+    returns
+    proposer-at-requires
+    decide-no-requires
+    same-length-2
+    returns-2
+    decide-requires
+    put-proposer-requires
+    same-length-3
+    returns-3)

@@ -1,0 +1,50 @@
+-- `ymd_run_text` meets its contract. Assumes nothing.
+use mathlib.Core.Path.{_≡_}
+use denote.Ref.{now}
+use Rattle.numbers.specs.declared.Written.the-variants as written
+use Rattle.printer.specs.Text.{putAnswer}
+use Rattle.printer.specs.Printing.{text}
+use borrow.Author.Needs.{needs}
+use Rattle.yazhmandu.proofs.text_call.ymd_run_text.Statement.{statement}
+use Rattle.yazhmandu.proofs.text_call.ymd_run_text.Tie as tie
+
+print-requires : tie.Need-print-requires
+print-requires c κs = search needs
+
+enum-known-printed : tie.Need-enum-known-printed
+enum-known-printed c = search needs
+
+enum-known-printed-2 : tie.Need-enum-known-printed-2
+enum-known-printed-2 c = search needs
+
+same-length : tie.Need-same-length
+same-length c = search needs
+
+returns : tie.Need-returns
+returns c =
+    let a = c .before .before .before .before .before .before .before .before .before .args in
+    let g = c .before .printed .given .0 in
+    let e : putAnswer (text (now (a .bytes))) (now (a .output)) ≡ written.Next (g .0) = cc in
+    (simp e, cc, simp e)
+
+same-length-2 : tie.Need-same-length-2
+same-length-2 c = search needs
+
+returns-2 : tie.Need-returns-2
+returns-2 c =
+    let a = c .before .before .before .before .before .before .before .before .before .args in
+    let g = c .before .printed2 .given .0 in
+    let e : putAnswer (text (now (a .bytes))) (now (a .output)) ≡ written.Refused (g .0) = cc in
+    (simp e, cc, simp e)
+
+pub ymd-run-text-spec : {M : Type 1} → statement M
+ymd-run-text-spec =
+    tie.close
+    (tie.spec
+    print-requires
+    enum-known-printed
+    enum-known-printed-2
+    same-length
+    returns
+    same-length-2
+    returns-2)

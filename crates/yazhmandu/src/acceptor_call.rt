@@ -1,0 +1,36 @@
+// The acceptor's rule on its record.
+ghost use mathlib.Core.Path.{_≡_};
+ghost use Rattle.yazhmandu.specs.Calls.{answerNo, answerRecord, answerReply};
+use layouts::acceptors::acceptor_at;
+use layouts::acceptors::is_acceptor;
+use layouts::fields::is_set;
+use layouts::fields::put_flagged;
+use layouts::fields::set_at;
+
+// Takes a proposal's set. The record is updated, and `reply` tells whether it is accepted (0 or 1) and the set to send.
+// 1 for the number of scans and the record, 3 for the set, 5 where the acceptor has crashed.
+#[no_mangle]
+pub extern "C" fn ymd_answer_proposal(
+    scans: u16,
+    kept: &mut [u8],
+    set: &[u8],
+    reply: &mut [u8; 9],
+) -> u8
+    ensures { λ r. ⌜ (r ≡ answerNo scans (now (kept .entry)) (now (set .entry))) × (now (kept .exit) ≡ answerRecord scans (now (kept .entry)) (now (set .entry))) × (now (reply .exit) ≡ answerReply scans (now (kept .entry)) (now (set .entry)) (now (reply .entry))) ⌝ }
+{
+    if !is_acceptor(kept, scans) {
+        return 1;
+    }
+    if !is_set(set, scans) {
+        return 3;
+    }
+    let before = acceptor_at(kept);
+    if !before.alive {
+        return 5;
+    }
+    let proposed = set_at(set, 0);
+    let after = before.answer(proposed);
+    put_flagged(kept, after.alive, after.accepted);
+    put_flagged(reply, before.accepts(proposed), after.accepted);
+    0
+}

@@ -1,24 +1,20 @@
 -- What one event does to the records that it finds, by value: the contracts of the code's decisions. The model's definitions say the same of a whole run.
 use mathlib.Core.Bool.{Bool, true, false}
-use mathlib.Core.List.{List, [], _∷_}
-use Prim.Native.Nat.{ℕ, zero, suc, _+_, _-_, _%_}
-use lib.Dec.{eqb, ltb}
-use lib.ListN.{getD}
+use Prim.Native.Nat.{ℕ, _%_}
 use Rattle.choice.specs.Choice.{if_then_else_}
 use Rattle.sizes.specs.declared.Sizes.{Sizes}
 use Rattle.sets.specs.Scans.{only}
 use Rattle.sets.specs.declared.scans.Scans.{Scans}
 use Rattle.model.specs.Records.{Kind, free, internal, proposal, acknowledgement, rejection, announcement, noKind, kindOf, Role, aProposer, anAcceptor, aLearner, noRole, roleOf, freeSlot}
 use Rattle.model.specs.Rules.{buffering, isCurrent, acknowledging, rejecting, afterPropose, afterRefine, afterDecide, crashedProposer, accepts, answering, crashedAcceptor, learns, listening, crashedLearner}
-use Rattle.model.specs.Table.{Internal, Proposal, Acknowledgement, Rejection, Announcement}
-use Rattle.model.specs.Events.{Code, receive, deliver, drop, duplicate, propose, refine, decide, crash, noCode, codeOf}
+use Rattle.model.specs.Table.{Internal, Proposal, Rejection, Announcement}
+use Rattle.model.specs.Events.{Code, receive, deliver, drop, duplicate, propose, refine, decide, crash, noCode}
 use Rattle.model.specs.declared.Proposer.{Proposer}
 use Rattle.model.specs.declared.Acceptor.{Acceptor}
 use Rattle.model.specs.declared.Learner.{Learner}
 use Rattle.model.specs.declared.Message.{Message}
-use Rattle.model.specs.declared.Event.{Event}
 use Rattle.model.specs.declared.Answer.{Answer}
-use Rattle.model.specs.declared.Answer.the-variants.{Ok, Learnt, Decided, Refused}
+use Rattle.model.specs.declared.Answer.the-variants.{Ok, Learnt, Decided}
 use Rattle.machine.specs.Sending.{silence, one, toEveryone, toOthers, acknowledgements}
 use Rattle.machine.specs.declared.sending.Send.{Send}
 use Rattle.machine.specs.declared.decide.Change.{Change}

@@ -1,5 +1,5 @@
 -- The first refusal of an event but 1 and 8, of the records that it finds.
-use mathlib.Core.Bool.{Bool, true, false, not, _&&_}
+use mathlib.Core.Bool.{Bool, true, not, _&&_}
 use Prim.Native.Nat.{ℕ}
 use lib.Dec.{eqb, ltb}
 use Rattle.sizes.specs.declared.Sizes.{Sizes}

@@ -1,6 +1,5 @@
 -- A run over the events of a schedule, on the records that a caller lends, as the code does it: event by event, each answer into a log.
-use mathlib.Core.Path.{_≡_}
-use mathlib.Core.List.{List, [], _∷_, map}
+use mathlib.Core.List.{List, map}
 use Prim.Native.Nat.{ℕ, zero, suc, _+_, _*_, _<_, _≤_}
 use lib.ListN.{length, getD, set}
 use Rattle.sizes.specs.declared.Sizes.{Sizes}

@@ -1,5 +1,4 @@
 -- The messages that an event sends, as the code describes them: how many there are and what they are made of.
-use mathlib.Core.Bool.{Bool, true, false}
 use mathlib.Core.List.{List, [], _∷_, map}
 use Prim.Native.Nat.{ℕ, _+_, _-_}
 use lib.Dec.{eqb, ltb}

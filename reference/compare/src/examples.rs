@@ -1,6 +1,10 @@
 //! The document's examples at the edges, executed on both programs and
 //! compared with the document's answers.
 
+use compare::machine::form::Sizes;
+use compare::machine::lent::Lent;
+use compare::machine::second::Second;
+use compare::machine::Machine;
 use reference::rng::Rng;
 use reference::sets::acceptors;
 
@@ -8,6 +12,7 @@ use crate::calls;
 use crate::clock::{self, ScanTime};
 use crate::numbers::reading::{self, Reading};
 use crate::numbers::{Limit, LIMITS, SCHEDULE};
+use crate::proved::Proved;
 use crate::suite::{Comparisons, Outcome, Tests};
 
 pub const TESTS: Tests = &[
@@ -18,6 +23,8 @@ pub const TESTS: Tests = &[
     ("greatest_schedule_number", greatest_schedule_number),
     ("above_the_schedule_limit", above_the_schedule_limit),
     ("input_ends_in_a_number", input_ends_in_a_number),
+    ("last_scan_and_one_past_it", last_scan_and_one_past_it),
+    ("fifteen_slots", fifteen_slots),
 ];
 
 /// A = 1, 2, 3, 7: majority 1, 2, 2, 4. A set of so many acceptors is a
@@ -74,6 +81,53 @@ fn above_the_schedule_limit(_: &mut Rng) -> Outcome {
 /// Byte 80 alone: 11.
 fn input_ends_in_a_number(_: &mut Rng) -> Outcome {
     reading_example(&[0x80], &LIMITS, Reading::refused(11))
+}
+
+/// S = 64, Receive scan 63: ok; 64: 3.
+fn last_scan_and_one_past_it(_: &mut Rng) -> Outcome {
+    let mut comparisons = Comparisons::new();
+    for (scan, stated) in [(63, 0), (64, 3)] {
+        comparisons.stated(
+            format_args!("Receive of scan {scan}"),
+            received::<Proved>(scan),
+            received::<Second>(scan),
+            stated,
+        )?;
+    }
+    comparisons.made()
+}
+
+/// M = 15: 1.
+fn fifteen_slots(_: &mut Rng) -> Outcome {
+    let mut comparisons = Comparisons::new();
+    let sizes = Sizes {
+        slots: 15,
+        ..ONE_OF_EACH
+    };
+    comparisons.stated(
+        format_args!("fresh, M = 15"),
+        Proved::fresh(sizes, &mut Lent::fresh(&sizes)),
+        Second::fresh(sizes, &mut Lent::fresh(&sizes)),
+        1,
+    )?;
+    comparisons.made()
+}
+
+/// One party of each role, and 64 scans.
+const ONE_OF_EACH: Sizes = Sizes {
+    proposers: 1,
+    acceptors: 1,
+    learners: 1,
+    slots: 16,
+    scans: 64,
+};
+
+/// What Receive of a scan answers on fresh records.
+fn received<M: Machine>(scan: u64) -> u64 {
+    let mut log = [0; 2];
+    let mut lent = Lent::fresh(&ONE_OF_EACH);
+    M::run(ONE_OF_EACH, &mut lent, &[1, 0, scan], &mut log, 1);
+    log[0]
 }
 
 fn scan_time_example(dock: u32, scan: u32, time: u64, stated: ScanTime) -> Outcome {

@@ -14,7 +14,7 @@ const FOLDER_VARIABLE: &str = "YAZHMANDU_ARCHIVES";
 const DEFAULT_FOLDER: &str = "../../target/staticlib";
 
 /// The archives.
-const ARCHIVES: [&str; 2] = ["libtest_calls.a", "libmachine.a"];
+const ARCHIVES: [&str; 3] = ["libtest_calls.a", "libmachine.a", "libyazhmandu.a"];
 
 fn main() {
     let manifest = env::var_os("CARGO_MANIFEST_DIR").expect("cargo names the manifest's folder");

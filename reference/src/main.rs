@@ -10,18 +10,20 @@ use std::process::ExitCode;
 use reference::generate::{self, Style, STYLES};
 use reference::printer;
 use reference::rng::Rng;
-use reference::schedule::{self, GREATEST_E, LONGEST};
+use reference::schedule::{self, Sizes, GREATEST_E, LONGEST};
 use reference::text;
 
 const USAGE: &str = "\
 usage: reference run < schedule
        reference asm < text > schedule
        reference dis < schedule > text
-       reference gen SEED STYLE EVENTS > schedule
+       reference gen SEED STYLE EVENTS [P A L M S] > schedule
+       reference rubbish SEED BYTES > file
 
 run prints what the schedule does. asm makes a schedule of its text form, dis
-a text of a schedule. gen draws a schedule of so many events: the same for the
-same seed.";
+a text of a schedule. gen draws a schedule of so many events, and its sizes
+where they are not given; rubbish draws so many bytes. Both draw the same for
+the same seed.";
 
 /// Why a command ends without its output.
 enum Failure {
@@ -61,7 +63,12 @@ fn command(arguments: &[&str]) -> Result<(), Failure> {
         ["run"] => write(&printer::print(&read_schedule()?)),
         ["asm"] => assemble(),
         ["dis"] => disassemble(),
-        ["gen", seed, style, events] => generate(seed, style, events),
+        ["gen", seed, style, events] => generate(seed, style, events, None),
+        ["gen", seed, style, events, p, a, l, m, s] => {
+            let sizes = parse_sizes([p, a, l, m, s])?;
+            generate(seed, style, events, Some(sizes))
+        }
+        ["rubbish", seed, bytes] => draw_bytes(seed, bytes),
         _ => Err(Failure::Usage(String::new())),
     }
 }
@@ -81,11 +88,9 @@ fn disassemble() -> Result<(), Failure> {
     write(text.as_bytes())
 }
 
-/// Draws a schedule.
-fn generate(seed: &str, style: &str, events: &str) -> Result<(), Failure> {
-    let seed = seed
-        .parse()
-        .map_err(|_| Failure::Usage(format!("`{seed}` is no seed: 0 to 2^64-1\n")))?;
+/// Draws a schedule. Sizes that are not given are the style's.
+fn generate(seed: &str, style: &str, events: &str, sizes: Option<Sizes>) -> Result<(), Failure> {
+    let mut rng = parse_seed(seed)?;
     let style =
         Style::named(style).ok_or_else(|| Failure::Usage(format!("`{style}` is no style\n")))?;
     let events = match events.parse() {
@@ -95,11 +100,43 @@ fn generate(seed: &str, style: &str, events: &str) -> Result<(), Failure> {
             return Err(Failure::Usage(reason));
         }
     };
-    let (sizes, events) = generate::generate(&mut Rng::new(seed), style, events);
+    let sizes = sizes.unwrap_or_else(|| style.sizes(&mut rng));
+    let events = generate::events_on(&mut rng, style, &sizes, events);
     let mut bytes = vec![0; LONGEST];
     let length = schedule::write(&sizes, &events, &mut bytes)
         .expect("a drawn schedule is within its ranges");
     write(&bytes[..length])
+}
+
+/// Draws bytes.
+fn draw_bytes(seed: &str, count: &str) -> Result<(), Failure> {
+    let mut rng = parse_seed(seed)?;
+    let count: usize = count
+        .parse()
+        .map_err(|_| Failure::Usage(format!("`{count}` is no count of bytes\n")))?;
+    let bytes: Vec<u8> = (0..count).map(|_| rng.draw() as u8).collect();
+    write(&bytes)
+}
+
+/// The generator of a seed.
+fn parse_seed(seed: &str) -> Result<Rng, Failure> {
+    let seed = seed
+        .parse()
+        .map_err(|_| Failure::Usage(format!("`{seed}` is no seed: 0 to 2^64-1\n")))?;
+    Ok(Rng::new(seed))
+}
+
+/// Sizes within their ranges.
+fn parse_sizes(words: [&str; 5]) -> Result<Sizes, Failure> {
+    let [p, a, l, m, s] = words.map(|word| word.parse().unwrap_or(0));
+    let sizes = Sizes { p, a, l, m, s };
+    match schedule::test_sizes(&sizes) {
+        Ok(()) => Ok(sizes),
+        Err(_) => Err(Failure::Usage(format!(
+            "`{}` are no sizes P A L M S\n",
+            words.join(" ")
+        ))),
+    }
 }
 
 fn style_names() -> String {

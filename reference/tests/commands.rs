@@ -94,8 +94,25 @@ fn generated_schedules() {
 }
 
 #[test]
+fn a_generated_schedule_of_given_sizes() {
+    let sizes = ["8", "7", "8", "512", "64"];
+    let bytes = written(&[&["gen", "7", "lossy", "200"][..], &sizes].concat(), b"");
+    let text = written(&["dis"], &bytes);
+    assert!(text.starts_with(b"sizes proposers 8 acceptors 7 learners 8 slots 512 scans 64\n"));
+    assert!(written(&["run"], &bytes).starts_with(b"1 ok\n"));
+}
+
+#[test]
+fn rubbish() {
+    let bytes = written(&["rubbish", "1234567", "3"], b"");
+    assert_eq!(bytes, [133, 165, 119]);
+    assert_eq!(written(&["rubbish", "1234567", "2"], b""), bytes[..2]);
+    assert_eq!(written(&["rubbish", "1234567", "0"], b""), b"");
+}
+
+#[test]
 fn arguments_that_are_no_command() {
-    let wrong: [&[&str]; 9] = [
+    let wrong: [&[&str]; 13] = [
         &[],
         &["walk"],
         &["run", "more"],
@@ -105,6 +122,10 @@ fn arguments_that_are_no_command() {
         &["gen", "one", "calm", "10"],
         &["gen", "1", "stormy", "10"],
         &["gen", "1", "calm", "4097"],
+        &["gen", "1", "calm", "10", "8", "7", "8", "513", "64"],
+        &["gen", "1", "calm", "10", "8", "7", "8", "many", "64"],
+        &["rubbish", "1"],
+        &["rubbish", "1", "some"],
     ];
     for arguments in wrong {
         let (text, status) = said(arguments, b"");

@@ -1,10 +1,18 @@
 //! Times the proved functions and the second program on the same inputs.
 //!
 //! Each line is a ratio: the best time of the proved function divided by the
-//! best time of the second program.
+//! best time of the second program. Given are the run printer, the second
+//! program and a schedule's file, on which whole processes of the two are
+//! timed; without them functions alone are.
 
 #![deny(unsafe_code)]
 
+use std::env;
+use std::ffi::OsString;
+use std::fs;
+use std::io;
+use std::path::Path;
+use std::process::Command;
 use std::time::{Duration, Instant};
 
 use compare::machine::form::{self, Acceptor, Learner, Proposer};
@@ -13,6 +21,7 @@ use compare::machine::{EVENT, LOG};
 use reference::generate::{events_on, Style};
 use reference::machine;
 use reference::numbers::{self, SCHEDULE_LIMIT, TABLE_LIMIT};
+use reference::printer;
 use reference::refusal::Refusal;
 use reference::rng::Rng;
 use reference::scan_table::{
@@ -23,6 +32,7 @@ use reference::shelf;
 
 #[allow(dead_code, unsafe_code)]
 mod calls;
+mod program;
 
 /// How many rounds each program has, and how long one takes the second program
 /// at least.
@@ -40,6 +50,9 @@ const LIMIT: u32 = 1;
 /// Room for a table of the longest numbers: S, then 17 bytes for each scan.
 const LONGEST_TABLE: usize = 1 + 17 * GREATEST_S as usize;
 
+/// Room for the longest text: 40 bytes for each event, and 19.
+const LONGEST_TEXT: usize = 40 * GREATEST_E as usize + 19;
+
 /// The greatest sizes.
 const GREATEST: Sizes = Sizes {
     p: 8,
@@ -52,7 +65,7 @@ const GREATEST: Sizes = Sizes {
 /// What a job gives where its program refuses.
 const REFUSED: u64 = u64::MAX;
 
-fn main() {
+fn main() -> io::Result<()> {
     let rng = &mut Rng::new(SEED);
     number_ratios(rng);
     schedule_ratios();
@@ -63,6 +76,15 @@ fn main() {
     shelf_ratios(&typical);
     machine_ratios(rng, "contention", Style::Contention);
     machine_ratios(rng, "lossy", Style::Lossy);
+    let arguments: Vec<OsString> = env::args_os().skip(1).collect();
+    match &arguments[..] {
+        [] => Ok(()),
+        [proved, second, schedule] => {
+            let commands = [program::proved(proved), program::second(second)];
+            program_ratios(commands, Path::new(schedule))
+        }
+        _ => panic!("usage: bench [RUN_PRINTER SECOND_PROGRAM SCHEDULE]"),
+    }
 }
 
 /// Prints the ratio of the two jobs' best times. The rounds alternate, and both
@@ -326,6 +348,45 @@ fn machine_ratios(rng: &mut Rng, name: &str, style: Style) {
         || proved.run_by_steps(),
         || second.run_by_steps(),
     );
+    text_ratio(name, &events);
+}
+
+/// The text of the same schedule.
+fn text_ratio(name: &str, events: &[Event]) {
+    let mut bytes = vec![0; LONGEST];
+    let length = schedule::write(&GREATEST, events, &mut bytes).expect("the events are accepted");
+    bytes.truncate(length);
+    let mut text = vec![0; LONGEST_TEXT];
+    let mut printed = 0;
+    ratio(
+        &format!("text, 4,096 events on 512 slots, {name}"),
+        || match calls::run_text(&mut text, &bytes, &mut printed) {
+            0 => printed as u64,
+            _ => REFUSED,
+        },
+        || printer::print(&bytes).len() as u64,
+    );
+}
+
+/// Whole processes on a schedule: the best times, and the peak memory.
+fn program_ratios(mut commands: [Command; 2], file: &Path) -> io::Result<()> {
+    let mut events = vec![Event::default(); GREATEST_E as usize];
+    let (sizes, e) =
+        schedule::read(&fs::read(file)?, &mut events).expect("the schedule is accepted");
+    let name = format!("whole program, {e} events on {} slots", sizes.m);
+    let times = program::best_times(&mut commands, file)?;
+    let [proved, second] = times.map(|time| 1_000.0 * time.as_secs_f64());
+    println!(
+        "{name}: {:.2} ({proved:.2} ms and {second:.2} ms)",
+        proved / second
+    );
+    let [proved, second] = &mut commands;
+    println!(
+        "{name}, peak memory: {} kB and {} kB",
+        program::peak_memory(proved, file)?,
+        program::peak_memory(second, file)?
+    );
+    Ok(())
 }
 
 /// The sum of a log.

@@ -1,7 +1,7 @@
 //! The C calls of the proved functions, each behind a safe function of the same
-//! name without `test_` or `machine_`. Answers are passed on as the calls give
-//! them: a test answers 0 or 1, a call that may refuse answers 0 or the
-//! refusal's number.
+//! name without `test_`, `machine_` or `ymd_`. Answers are passed on as the
+//! calls give them: a test answers 0 or 1, a call that may refuse answers 0 or
+//! the refusal's number.
 
 use compare::machine::form::{Acceptor, Learner, Message, Proposer, Sizes};
 
@@ -115,6 +115,14 @@ mod c {
             log: *mut u64,
             log_length: usize,
             n: u16,
+        ) -> u8;
+
+        pub fn ymd_run_text(
+            text: *mut u8,
+            text_length: usize,
+            schedule: *const u8,
+            schedule_length: usize,
+            length: *mut usize,
         ) -> u8;
     }
 }
@@ -359,6 +367,22 @@ pub fn run(
             log.as_mut_ptr(),
             log.len(),
             n,
+        )
+    }
+}
+
+/// Prints what the schedule does to the start of `text`.
+pub fn run_text(text: &mut [u8], schedule: &[u8], length: &mut usize) -> u8 {
+    // SAFETY: the call writes `text_length` bytes from the text's pointer at
+    // most, and the cell, and reads `schedule_length` bytes at most; all three
+    // are borrowed for the call.
+    unsafe {
+        c::ymd_run_text(
+            text.as_mut_ptr(),
+            text.len(),
+            schedule.as_ptr(),
+            schedule.len(),
+            length,
         )
     }
 }

@@ -188,7 +188,7 @@ pub fn random_byte(rng: &mut Rng) -> u8 {
 }
 
 /// The lengths of lent memory for a form that takes `exact` places.
-fn lengths_about(rng: &mut Rng, exact: usize) -> [usize; 6] {
+pub fn lengths_about(rng: &mut Rng, exact: usize) -> [usize; 6] {
     [
         exact,
         exact.saturating_sub(1),

@@ -8,7 +8,9 @@
 use std::panic::catch_unwind;
 use std::process::ExitCode;
 
+use compare::forms;
 use compare::machine::Suites;
+use compare::printed;
 use compare::suite::{self, Outcome, Test, Tests};
 use reference::rng::Rng;
 
@@ -18,7 +20,6 @@ use proved::Proved;
 mod calls;
 mod clock;
 mod examples;
-mod forms;
 mod numbers;
 mod proved;
 mod schedules;
@@ -41,6 +42,7 @@ const SUITES: &[(&str, Tests)] = &[
     ("machine, runs", Suites::<Proved>::RUNS),
     ("machine, steps", Suites::<Proved>::STEPS),
     ("machine, fresh", Suites::<Proved>::FRESH),
+    ("printed text", printed::Suite::<Proved>::TESTS),
 ];
 
 /// Counts over tests.

@@ -1,12 +1,13 @@
-//! The proved machine, through the archive's calls.
+//! The proved machine and the proved printer, through the archives' calls.
 
 use compare::machine::form::Sizes;
 use compare::machine::lent::Lent;
 use compare::machine::Machine;
+use compare::printed::Printer;
 
 use crate::calls;
 
-/// The archive's machine.
+/// The archives' machine and printer.
 pub struct Proved;
 
 impl Machine for Proved {
@@ -31,5 +32,11 @@ impl Machine for Proved {
             log,
             n,
         )
+    }
+}
+
+impl Printer for Proved {
+    fn print(output: &mut [u8], bytes: &[u8], length: &mut usize) -> u8 {
+        calls::run_text(output, bytes, length)
     }
 }

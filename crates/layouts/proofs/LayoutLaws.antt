@@ -3,7 +3,7 @@ use mathlib.Core.Bool.{Bool, true, false}
 use mathlib.Core.List.{List, [], _∷_, _++_, append-nil}
 use mathlib.Core.Path.{_≡_, refl, sym, ap, _∙_}
 use Prim.Native.Nat.{ℕ, zero, suc, _+_, _-_, _*_, _/_, _%_, _^_, _≤_, _<_}
-use native.Mathlib.Nat.{not-suc-le-zero, le-of-suc-le-suc, pow-suc, pow-le-pow-right, div-add-mod'}
+use native.Mathlib.Nat.{not-suc-le-zero, le-of-suc-le-suc, pow-suc, pow-le-pow-right, div-add-mod', min-eq-left}
 use native.Mathlib.Omega.{arith}
 use lib.Arith.{digits-div, digits-mod}
 use lib.Dec.{eqb}
@@ -24,8 +24,8 @@ use Rattle.model.specs.declared.Learner.{Learner}
 use Rattle.model.specs.declared.Proposer.{Proposer}
 use Rattle.model.proofs.Cases.{and-l, and-r}
 use Rattle.layouts.specs.Layout.{wordAt, wordBytes, setAt, setBytes, isFlag, flagAt, flagBytes, flagged, isAcceptor, acceptorAt, acceptorBytes, isProposer, proposerAt, proposerBytes, placeOf, heardAt, heardBytes, placesAt, placesBytes, isLearner, learnerAt, learnerBytes}
-use Rattle.layouts.proofs.Parts.{put-whole, put-fields, acceptor-length, proposer-length, learner-length, learner-sizes, few-proposers}
-use Rattle.layouts.proofs.Places.{places, eight-read, length-places-at, length-places, places-append, put-heard-fields, put-learner-parts}
+use Rattle.layouts.proofs.Parts.{put-whole, proposer-whole, put-fields, acceptor-length, learner-sizes, few-proposers}
+use Rattle.layouts.proofs.Places.{eight-heard, length-places-at, length-places, places-append, put-heard-fields, learner-whole, put-learner-parts}
 
 -- bytes are below 256
 abbrev pub AreBytes : List ℕ → Type 0
@@ -131,7 +131,6 @@ proposer-same a s bytes b e =
     (put-fields
     bytes
     (proposerAt bytes)
-    (proposer-length a s bytes e)
     (sym (flag-same bytes 0 f))
     (sym (flag-same bytes 1 g))
     (sym (word-same 8 bytes b 2))
@@ -140,7 +139,8 @@ proposer-same a s bytes b e =
     (sym (word-same 2 bytes b 26))
     (sym (set-getD bytes 28 0))
     (sym (set-getD bytes 29 0))
-    (sym (word-same 8 bytes b 30)))
+    (sym (word-same 8 bytes b 30))
+    ∙ proposer-whole a s bytes (proposerAt bytes) e)
 
 -- ---- a learner's record
 
@@ -203,6 +203,10 @@ every f d (x ∷ xs) zero h e = and-l (f x) (all f xs) e
 every f d (x ∷ xs) (suc i) h e = every f d xs i (le-of-suc-le-suc h) (and-r (f x) (all f xs) e)
 
 module _ (z : Sizes) (l : Learner) (many : z .proposers ≤ length (l .heard)) (e : sizesInRange z ≡ true) (x : learnerInRange z l ≡ true) where
+  few : z .proposers ≤ 8
+  unfolding sizesInRange
+  few = search (and-l, and-r, leb-true) depth 9
+
   own : List Heard
   own = take (z .proposers) (l .heard)
 
@@ -231,7 +235,7 @@ module _ (z : Sizes) (l : Learner) (many : z .proposers ≤ length (l .heard)) (
       λ i. record {
         alive = flag-back (l .alive) i;
         learnt = record { bits = w i };
-        heard = own-back i ++ replicate (8 - z .proposers) unheard;
+        heard = (ap (λ (n : ℕ). placesAt n (learnerBytes (z .proposers) l)) (min-eq-left few) ∙ own-back) i ++ replicate (8 - z .proposers) unheard;
       }
 
 module _ (bytes : List ℕ) (b : AreBytes bytes) where
@@ -256,14 +260,14 @@ module _ (bytes : List ℕ) (b : AreBytes bytes) where
   learner-same p a s e =
       let f : isFlag bytes 0 ≡ true = search (and-l, and-r) depth 9 in
       let m : p ≤ 8 = few-proposers p a s (learner-sizes p a s bytes e) in
-      let t : take p (places p bytes) ≡ placesAt p bytes = take-at (placesAt p bytes) (replicate (8 - p) unheard) p (length-places-at p bytes) in
+      let t : take p (learnerAt p bytes .heard) ≡ placesAt p bytes = rw (min-eq-left m) (take-at (placesAt p bytes) (replicate (8 - p) unheard) p (length-places-at p bytes)) in
       sym
       (put-learner-parts
       bytes
       p
       (learnerAt p bytes)
-      (omega (arith, eight-read p bytes m))
-      (learner-length p a s bytes e)
+      (sym t)
       (sym (flag-same bytes 0 f))
       (sym (word-same 8 bytes b 1))
-      (sym (ap (λ (hs : List Heard). sets bytes 9 (placesBytes hs)) t ∙ places-same p)))
+      (sym (places-same p))
+      ∙ learner-whole p a s bytes (learnerAt p bytes) (eight-heard p bytes) e)

@@ -10,10 +10,11 @@ use mir.Val.{boolByte}
 use borrow.Author.Tests.{ltb-true, leb-true, eqb-true, not-true, not-false}
 use Rattle.choice.specs.Choice.{if_then_else_}
 use Rattle.sets.specs.Acceptors.{mostAcceptors}
+use Rattle.sets.specs.declared.scans.Scans.{Scans}
 use Rattle.sizes.specs.Sizes.{sizesInRange}
 use Rattle.model.specs.declared.Proposer.{Proposer}
 use Rattle.model.proofs.Cases.{and-l, and-r}
-use Rattle.layouts.specs.Layout.{sizesOf, wordBytes, setBytes, numberBytes, acceptorsBytes, flagBytes, isSet, isAnswer, isAcceptor, isProposer, proposerBytes, placeOf, isLearner}
+use Rattle.layouts.specs.Layout.{sizesOf, wordBytes, setBytes, numberBytes, acceptorsBytes, flagBytes, flagged, isAnswer, isAcceptor, isProposer, proposerBytes, placeOf, isLearner}
 
 -- ---- a test by a function, in what its result is
 
@@ -32,7 +33,7 @@ flag-byte false = refl
 pub stored-flag : (bytes : List ℕ) (at : ℕ) (t : Bool) → set bytes at (boolByte t) ≡ sets bytes at (flagBytes t)
 stored-flag bytes at t = ap (λ (n : ℕ). set bytes at n) (flag-byte t)
 
-pub length-word : (n word : ℕ) → length (wordBytes n word) ≡ n
+length-word : (n word : ℕ) → length (wordBytes n word) ≡ n
 unfolding wordBytes
 length-word zero word = refl
 length-word (suc n) word = ap suc (length-word n (word / 256))
@@ -43,23 +44,27 @@ put-whole bytes new e =
     let q : length bytes ≤ 0 + length new = omega arith in
     sets-eq new bytes 0 (omega arith) ∙ rw (drop-of-length-le bytes q) (append-nil new)
 
--- ---- the lengths of what passed its tests
+pub flagged-whole : (bytes : List ℕ) (t : Bool) (v : Scans) → length bytes ≡ 9 → sets bytes 0 (flagged t v) ≡ flagged t v
+flagged-whole bytes t v e = put-whole bytes (flagged t v) (e ∙ ap suc (sym (length-word 8 (v .bits))))
 
-pub set-length : (s : ℕ) (bytes : List ℕ) → isSet s bytes ≡ true → length bytes ≡ 8
-unfolding isSet
-set-length s bytes e = search (and-l, eqb-true) depth 9
+-- ---- the lengths of what passed its tests
 
 pub acceptor-length : (s : ℕ) (bytes : List ℕ) → isAcceptor s bytes ≡ true → length bytes ≡ 9
 unfolding isAcceptor
 acceptor-length s bytes e = search (and-l, and-r, eqb-true) depth 9
 
-pub proposer-length : (a s : ℕ) (bytes : List ℕ) → isProposer a s bytes ≡ true → length bytes ≡ 38
+proposer-length : (a s : ℕ) (bytes : List ℕ) → isProposer a s bytes ≡ true → length bytes ≡ 38
 unfolding isProposer
 proposer-length a s bytes e = search (and-l, and-r, eqb-true) depth 9
 
 pub learner-length : (p a s : ℕ) (bytes : List ℕ) → isLearner p a s bytes ≡ true → length bytes ≡ placeOf p
 unfolding isLearner
 learner-length p a s bytes e = search (and-l, and-r, eqb-true) depth 9
+
+-- a record that is put over one that passed is whole
+pub proposer-whole : (a s : ℕ) (bytes : List ℕ) (p : Proposer) → isProposer a s bytes ≡ true → sets bytes 0 (proposerBytes p) ≡ proposerBytes p
+unfolding wordBytes proposerBytes
+proposer-whole a s bytes p e = put-whole bytes (proposerBytes p) (proposer-length a s bytes e)
 
 -- ---- the arguments of what passed its tests
 
@@ -88,7 +93,7 @@ answer-number a j n e = search (and-l, and-r, leb-true) depth 9
 
 -- ---- the fields of a proposer's record, put one after the other
 
-pub put-fields : (b₀ : List ℕ) {b₁ b₂ b₃ b₄ b₅ b₆ b₇ b₈ b₉ : List ℕ} (p : Proposer) → length b₀ ≡ 38
+pub put-fields : (b₀ : List ℕ) {b₁ b₂ b₃ b₄ b₅ b₆ b₇ b₈ b₉ : List ℕ} (p : Proposer)
     → b₁ ≡ sets b₀ 0 (flagBytes (p .alive))
     → b₂ ≡ sets b₁ 1 (flagBytes (p .active))
     → b₃ ≡ sets b₂ 2 (setBytes (p .buffered))
@@ -98,7 +103,7 @@ pub put-fields : (b₀ : List ℕ) {b₁ b₂ b₃ b₄ b₅ b₆ b₇ b₈ b₉
     → b₇ ≡ sets b₆ 28 (acceptorsBytes (p .acknowledged))
     → b₈ ≡ sets b₇ 29 (acceptorsBytes (p .rejected))
     → b₉ ≡ sets b₈ 30 (setBytes (p .decided))
-    → b₉ ≡ proposerBytes p
+    → b₉ ≡ sets b₀ 0 (proposerBytes p)
 unfolding wordBytes proposerBytes
-put-fields b₀ p e e₁ e₂ e₃ e₄ e₅ e₆ e₇ e₈ e₉ =
-    e₉ ∙ ap (λ (l : List ℕ). sets l 30 (setBytes (p .decided))) (e₈ ∙ ap (λ (l : List ℕ). sets l 29 (acceptorsBytes (p .rejected))) (e₇ ∙ ap (λ (l : List ℕ). sets l 28 (acceptorsBytes (p .acknowledged))) (e₆ ∙ ap (λ (l : List ℕ). sets l 26 (numberBytes (p .number))) (e₅ ∙ ap (λ (l : List ℕ). sets l 18 (setBytes (p .gathered))) (e₄ ∙ ap (λ (l : List ℕ). sets l 10 (setBytes (p .proposed))) (e₃ ∙ ap (λ (l : List ℕ). sets l 2 (setBytes (p .buffered))) (e₂ ∙ ap (λ (l : List ℕ). sets l 1 (flagBytes (p .active))) e₁))))))) ∙ put-whole b₀ (proposerBytes p) e
+put-fields b₀ p e₁ e₂ e₃ e₄ e₅ e₆ e₇ e₈ e₉ =
+    e₉ ∙ ap (λ (l : List ℕ). sets l 30 (setBytes (p .decided))) (e₈ ∙ ap (λ (l : List ℕ). sets l 29 (acceptorsBytes (p .rejected))) (e₇ ∙ ap (λ (l : List ℕ). sets l 28 (acceptorsBytes (p .acknowledged))) (e₆ ∙ ap (λ (l : List ℕ). sets l 26 (numberBytes (p .number))) (e₅ ∙ ap (λ (l : List ℕ). sets l 18 (setBytes (p .gathered))) (e₄ ∙ ap (λ (l : List ℕ). sets l 10 (setBytes (p .proposed))) (e₃ ∙ ap (λ (l : List ℕ). sets l 2 (setBytes (p .buffered))) (e₂ ∙ ap (λ (l : List ℕ). sets l 1 (flagBytes (p .active))) e₁)))))))

@@ -1,17 +1,24 @@
 -- How the loops over a learner's places go.
+use mathlib.Core.Bool.{true}
 use mathlib.Core.List.{List, [], _∷_, _++_, append-assoc, append-nil}
+use mathlib.Core.Logic.{⊎-elim}
 use mathlib.Core.Path.{_≡_, refl, sym, ap, _∙_}
-use Prim.Native.Nat.{ℕ, zero, suc, _+_, _-_, _*_, _≤_, _<_}
+use Prim.Native.Nat.{ℕ, zero, suc, _+_, _-_, _*_, _≤_, _<_, min}
+use native.Mathlib.Nat.{min-eq-left, min-eq-right, min-le-right}
 use native.Mathlib.Numerals.{add-one}
 use native.Mathlib.Omega.{arith}
-use lib.ListN.{length, getD, set, take, replicate, length-append, length-replicate}
-use lib.Seq.{sets, take-suc, length-take-le, set-at, append-snoc}
+use lib.ListN.{length, getD, set, take, replicate, length-set, length-append, length-replicate}
+use lib.Seq.{sets, take-suc, take-all, length-take-le, set-at, append-snoc}
 use Rattle.forms.proofs.Steps.{sets-append}
 use Rattle.model.specs.Records.{unheard}
+use Rattle.model.specs.Rules.{listening}
 use Rattle.model.specs.declared.Heard.{Heard}
 use Rattle.model.specs.declared.Learner.{Learner}
-use Rattle.layouts.specs.Layout.{wordBytes, setBytes, numberBytes, acceptorsBytes, flagBytes, flagged, placeOf, heardBytes, heardAt, placesBytes, placesAt, learnerBytes}
-use Rattle.layouts.proofs.Parts.{put-whole}
+use Rattle.model.specs.declared.Message.{Message}
+use Rattle.model.proofs.RuleLaws.{listening-heard}
+use Rattle.model.proofs.Moments.{earlier}
+use Rattle.layouts.specs.Layout.{wordBytes, setBytes, numberBytes, acceptorsBytes, flagBytes, flagged, placeOf, heardBytes, heardAt, placesBytes, placesAt, isLearner, learnerAt, learnerBytes}
+use Rattle.layouts.proofs.Parts.{put-whole, learner-length, learner-sizes, few-proposers}
 
 -- ---- reading
 
@@ -25,7 +32,7 @@ length-places-at (suc n) bytes =
 abbrev pub places : ℕ → List ℕ → List Heard
 places i bytes = placesAt i bytes ++ replicate (8 - i) unheard
 
-pub eight-read : (i : ℕ) (bytes : List ℕ) → i ≤ 8 → length (places i bytes) ≡ 8
+eight-read : (i : ℕ) (bytes : List ℕ) → i ≤ 8 → length (places i bytes) ≡ 8
 eight-read i bytes h =
     length-append (placesAt i bytes) (replicate (8 - i) unheard) ∙ omega (arith, length-places-at i bytes, length-replicate (8 - i) unheard)
 
@@ -34,6 +41,21 @@ unfolding placesAt
 read-place i bytes h =
     let p : 8 - i ≡ suc (8 - (i + 1)) = omega arith in
     rw (p, add-one i) (set-at (placesAt i bytes) unheard (replicate (8 - suc i) unheard) (heardAt bytes (placeOf i)) i (length-places-at i bytes) ∙ sym (append-snoc (placesAt i bytes) (heardAt bytes (placeOf i)) (replicate (8 - suc i) unheard)))
+
+-- a greater number than eight leaves none unread
+pub eight-left : (p : ℕ) → 8 - min p 8 ≡ 8 - p
+eight-left p =
+    ⊎-elim
+    (λ (h : p ≤ 8). ap (λ (n : ℕ). 8 - n) (min-eq-left h))
+    (λ (h : 8 ≤ p). let e : 8 - p ≡ 0 = omega arith in ap (λ (n : ℕ). 8 - n) (min-eq-right h) ∙ sym e)
+    (earlier p 8)
+
+pub eight-heard : (p : ℕ) (bytes : List ℕ) → length (learnerAt p bytes .heard) ≡ 8
+unfolding learnerAt
+eight-heard p bytes = rw (sym (eight-left p)) (eight-read (min p 8) bytes (min-le-right p 8))
+
+pub eight-listening : (a p : ℕ) (bytes : List ℕ) (m : Message) → length (listening a (learnerAt p bytes) m .heard) ≡ 8
+eight-listening a p bytes m = ap length (listening-heard a (learnerAt p bytes) m) ∙ simp length-set (eight-heard p bytes)
 
 -- ---- writing
 
@@ -81,16 +103,29 @@ length-learner p l h =
     let hs = take p (l .heard) in
     length-append (flagged (l .alive) (l .learnt)) (placesBytes hs) ∙ omega (arith, length-places hs, length-take-le p (l .heard) h)
 
+pub learner-whole : (p a s : ℕ) (bytes : List ℕ) (l : Learner) → length (l .heard) ≡ 8 → isLearner p a s bytes ≡ true → sets bytes 0 (learnerBytes p l) ≡ learnerBytes p l
+learner-whole p a s bytes l h e =
+    let m : p ≤ length (l .heard) = omega (arith, few-proposers p a s (learner-sizes p a s bytes e)) in
+    put-whole bytes (learnerBytes p l) (learner-length p a s bytes e ∙ sym (length-learner p l m))
+
+-- the places of a greater number are all eight
+pub take-eight : (p : ℕ) (hs : List Heard) → length hs ≡ 8 → take (min p 8) hs ≡ take p hs
+take-eight p hs e =
+    ⊎-elim
+    (λ (h : p ≤ 8). ap (λ (n : ℕ). take n hs) (min-eq-left h))
+    (λ (h : 8 ≤ p). ap (λ (n : ℕ). take n hs) (min-eq-right h) ∙ take-all 8 hs (omega arith) ∙ sym (take-all p hs (omega arith)))
+    (earlier p 8)
+
 -- the parts of a learner's record, put one after the other
-pub put-learner-parts : (b₀ : List ℕ) (p : ℕ) {b₁ b₂ b₃ : List ℕ} (l : Learner) → p ≤ length (l .heard) → length b₀ ≡ placeOf p
+pub put-learner-parts : (b₀ : List ℕ) (p : ℕ) {b₁ b₂ b₃ : List ℕ} (l : Learner) {hs : List Heard}
+    → hs ≡ take p (l .heard)
     → b₁ ≡ sets b₀ 0 (flagBytes (l .alive))
     → b₂ ≡ sets b₁ 1 (setBytes (l .learnt))
-    → b₃ ≡ sets b₂ 9 (placesBytes (take p (l .heard)))
-    → b₃ ≡ learnerBytes p l
+    → b₃ ≡ sets b₂ 9 (placesBytes hs)
+    → b₃ ≡ sets b₀ 0 (learnerBytes p l)
 unfolding wordBytes learnerBytes
-put-learner-parts b₀ p l h e e₁ e₂ e₃ =
-    let hs = placesBytes (take p (l .heard)) in
+put-learner-parts b₀ p l {hs = hs} own e₁ e₂ e₃ =
     e₃
-    ∙ ap (λ (b : List ℕ). sets b 9 hs) (e₂ ∙ ap (λ (b : List ℕ). sets b 1 (setBytes (l .learnt))) e₁)
-    ∙ sym (sets-append (flagged (l .alive) (l .learnt)) hs b₀ 0)
-    ∙ put-whole b₀ (learnerBytes p l) (e ∙ sym (length-learner p l h))
+    ∙ ap (λ (b : List ℕ). sets b 9 (placesBytes hs)) (e₂ ∙ ap (λ (b : List ℕ). sets b 1 (setBytes (l .learnt))) e₁)
+    ∙ sym (sets-append (flagged (l .alive) (l .learnt)) (placesBytes hs) b₀ 0)
+    ∙ ap (λ (ks : List Heard). sets b₀ 0 (flagged (l .alive) (l .learnt) ++ placesBytes ks)) own

@@ -1,7 +1,7 @@
--- The bytes of sets and records as the site server keeps them, fixed for good. A record has one written form: reading back what was written gives the record, and writing what was read gives the bytes (proofs/LayoutLaws).
+-- The bytes of sets and records as the site server keeps them, fixed for good. A record has one written form: reading back what was written gives the record, and writing what was read gives the bytes (proofs/LayoutLaws). Past the end a byte reads 0.
 use mathlib.Core.Bool.{Bool, _&&_}
 use mathlib.Core.List.{List, [], _∷_, _++_}
-use Prim.Native.Nat.{ℕ, zero, suc, _+_, _-_, _*_, _/_, _%_}
+use Prim.Native.Nat.{ℕ, zero, suc, _+_, _-_, _*_, _/_, _%_, min}
 use lib.Dec.{eqb, ltb, leb}
 use lib.ListN.{length, getD, take, replicate}
 use Rattle.choice.specs.Choice.{if_then_else_}
@@ -154,12 +154,12 @@ placesAt (suc n) bytes = placesAt n bytes ++ heardAt bytes (placeOf n) ∷ []
 unfoldable pub learnerBytes : ℕ → Learner → List ℕ
 learnerBytes p l = flagged (l .alive) (l .learnt) ++ placesBytes (take p (l .heard))
 
--- of proposers past the run's own nothing is heard
+-- eight places: of proposers past the run's own nothing is heard
 unfoldable pub learnerAt : ℕ → List ℕ → Learner
 learnerAt p bytes = record {
   alive = flagAt bytes 0;
   learnt = setAt bytes 1;
-  heard = placesAt p bytes ++ replicate (8 - p) unheard;
+  heard = placesAt (min p 8) bytes ++ replicate (8 - p) unheard;
 }
 
 unfoldable pub isLearner : ℕ → ℕ → ℕ → List ℕ → Bool

@@ -1,6 +1,5 @@
 // An acceptor's record.
 ghost use mathlib.Core.Path.{_≡_};
-ghost use lib.ListN.{length};
 ghost use Rattle.layouts.specs.Layout.{isAcceptor, acceptorAt};
 use crate::fields::flag_at;
 use crate::fields::is_flag;
@@ -9,7 +8,6 @@ use crate::fields::sizes_of;
 use model::Acceptor;
 
 pub fn acceptor_at(kept: &[u8]) -> Acceptor
-    requires { ⌜ length (now kept) ≡ 9 ⌝ }
     ensures { λ r. ⌜ r ≡ acceptorAt (now (kept .entry)) ⌝ }
 {
     let alive = flag_at(kept, 0);

@@ -1,7 +1,8 @@
-// Values out of bytes, and into them: every number low byte first.
+// Values out of bytes, and into them: every number low byte first. Past the end a byte reads 0, and one that is put there is left out.
+ghost use mathlib.Core.List.{[], _∷_};
 ghost use mathlib.Core.Path.{_≡_};
-ghost use Prim.Native.Nat.{_+_, _≤_, _<_};
-ghost use lib.ListN.{length};
+ghost use Prim.Native.Nat.{_≤_};
+ghost use lib.ListN.{getD};
 ghost use lib.Seq.{sets};
 ghost use Rattle.layouts.specs.Layout.{sizesOf, wordAt, wordBytes, setAt, setBytes, numberAt, numberBytes, acceptorsAt, acceptorsBytes, isFlag, flagAt, flagBytes, isSet, isAnswer, flagged};
 use choice::both;
@@ -23,36 +24,52 @@ pub fn sizes_of(proposers: u16, acceptors: u16, scans: u16) -> Sizes
     }
 }
 
+fn byte_at(bytes: &[u8], at: usize) -> u8
+    ensures { λ r. ⌜ r ≡ getD (now (bytes .entry)) at 0 ⌝ }
+{
+    if at < bytes.len() {
+        return bytes[at];
+    }
+    0
+}
+
+fn put_byte(bytes: &mut [u8], at: usize, byte: u8)
+    ensures { λ _. ⌜ now (bytes .exit) ≡ sets (now (bytes .entry)) at (byte ∷ []) ⌝ }
+{
+    if at < bytes.len() {
+        bytes[at] = byte;
+    }
+}
+
 // The number of so many bytes from a place on.
-fn word_at(bytes: &[u8], at: usize, count: usize) -> u64
-    requires { ⌜ (count ≤ 8) × (at + count ≤ length (now bytes)) ⌝ }
+fn word_at(bytes: &[u8], at: u16, count: usize) -> u64
+    requires { ⌜ count ≤ 8 ⌝ }
     ensures { λ r. ⌜ r ≡ wordAt count (now (bytes .entry)) at ⌝ }
 {
     let mut word: u64 = 0;
     let mut left = count;
     while 0 < left {
         left -= 1;
-        word = word * 256 + bytes[at + left] as u64;
+        word = word * 256 + byte_at(bytes, at as usize + left) as u64;
     }
     word
 }
 
 // Puts a number into so many bytes from a place on.
-fn put_word(bytes: &mut [u8], at: usize, count: usize, word: u64)
-    requires { ⌜ at + count ≤ length (now bytes) ⌝ }
+fn put_word(bytes: &mut [u8], at: u16, count: usize, word: u64)
+    requires { ⌜ count ≤ 8 ⌝ }
     ensures { λ _. ⌜ now (bytes .exit) ≡ sets (now (bytes .entry)) at (wordBytes count word) ⌝ }
 {
     let mut rest = word;
     let mut i: usize = 0;
     while i < count {
-        bytes[at + i] = (rest % 256) as u8;
+        put_byte(bytes, at as usize + i, (rest % 256) as u8);
         rest = rest / 256;
         i += 1;
     }
 }
 
-pub fn set_at(bytes: &[u8], at: usize) -> Scans
-    requires { ⌜ at + 8 ≤ length (now bytes) ⌝ }
+pub fn set_at(bytes: &[u8], at: u16) -> Scans
     ensures { λ r. ⌜ r ≡ setAt (now (bytes .entry)) at ⌝ }
 {
     Scans {
@@ -60,8 +77,7 @@ pub fn set_at(bytes: &[u8], at: usize) -> Scans
     }
 }
 
-pub(crate) fn put_set(bytes: &mut [u8], at: usize, set: Scans)
-    requires { ⌜ at + 8 ≤ length (now bytes) ⌝ }
+pub(crate) fn put_set(bytes: &mut [u8], at: u16, set: Scans)
     ensures { λ _. ⌜ now (bytes .exit) ≡ sets (now (bytes .entry)) at (setBytes set) ⌝ }
 {
     put_word(bytes, at, 8, set.bits);
@@ -77,32 +93,30 @@ pub fn is_set(bytes: &[u8], scans: u16) -> bool
     set_at(bytes, 0).fits(scans as u32)
 }
 
-pub(crate) fn number_at(bytes: &[u8], at: usize) -> u16
-    requires { ⌜ at + 2 ≤ length (now bytes) ⌝ }
+pub(crate) fn number_at(bytes: &[u8], at: u16) -> u16
     ensures { λ r. ⌜ r ≡ numberAt (now (bytes .entry)) at ⌝ }
 {
     word_at(bytes, at, 2) as u16
 }
 
-pub(crate) fn put_number(bytes: &mut [u8], at: usize, number: u16)
-    requires { ⌜ at + 2 ≤ length (now bytes) ⌝ }
+pub(crate) fn put_number(bytes: &mut [u8], at: u16, number: u16)
     ensures { λ _. ⌜ now (bytes .exit) ≡ sets (now (bytes .entry)) at (numberBytes number) ⌝ }
 {
     put_word(bytes, at, 2, number as u64);
 }
 
-pub(crate) fn acceptors_at(bytes: &[u8], at: usize) -> Acceptors
-    requires { ⌜ at < length (now bytes) ⌝ }
+pub(crate) fn acceptors_at(bytes: &[u8], at: u16) -> Acceptors
     ensures { λ r. ⌜ r ≡ acceptorsAt (now (bytes .entry)) at ⌝ }
 {
-    Acceptors { bits: bytes[at] }
+    Acceptors {
+        bits: byte_at(bytes, at as usize),
+    }
 }
 
-pub(crate) fn put_acceptors(bytes: &mut [u8], at: usize, acceptors: Acceptors)
-    requires { ⌜ at < length (now bytes) ⌝ }
+pub(crate) fn put_acceptors(bytes: &mut [u8], at: u16, acceptors: Acceptors)
     ensures { λ _. ⌜ now (bytes .exit) ≡ sets (now (bytes .entry)) at (acceptorsBytes acceptors) ⌝ }
 {
-    bytes[at] = acceptors.bits;
+    put_byte(bytes, at as usize, acceptors.bits);
 }
 
 // Whether it is an answer of an acceptor of the run, to a proposal's number.
@@ -116,31 +130,27 @@ pub fn is_answer(acceptors: u16, acceptor: u64, number: u64) -> bool
 }
 
 // A flag is 0 or 1.
-pub(crate) fn is_flag(bytes: &[u8], at: usize) -> bool
-    requires { ⌜ at < length (now bytes) ⌝ }
+pub(crate) fn is_flag(bytes: &[u8], at: u16) -> bool
     ensures { λ r. ⌜ r ≡ isFlag (now (bytes .entry)) at ⌝ }
 {
-    bytes[at] <= 1
+    byte_at(bytes, at as usize) <= 1
 }
 
-pub(crate) fn flag_at(bytes: &[u8], at: usize) -> bool
-    requires { ⌜ at < length (now bytes) ⌝ }
+pub(crate) fn flag_at(bytes: &[u8], at: u16) -> bool
     ensures { λ r. ⌜ r ≡ flagAt (now (bytes .entry)) at ⌝ }
 {
-    bytes[at] == 1
+    byte_at(bytes, at as usize) == 1
 }
 
-pub(crate) fn put_flag(bytes: &mut [u8], at: usize, flag: bool)
-    requires { ⌜ at < length (now bytes) ⌝ }
+pub(crate) fn put_flag(bytes: &mut [u8], at: u16, flag: bool)
     ensures { λ _. ⌜ now (bytes .exit) ≡ sets (now (bytes .entry)) at (flagBytes flag) ⌝ }
 {
-    bytes[at] = flag as u8;
+    put_byte(bytes, at as usize, flag as u8);
 }
 
 // Puts a flag and a set, 9 bytes.
 pub fn put_flagged(bytes: &mut [u8], flag: bool, set: Scans)
-    requires { ⌜ length (now bytes) ≡ 9 ⌝ }
-    ensures { λ _. ⌜ now (bytes .exit) ≡ flagged flag set ⌝ }
+    ensures { λ _. ⌜ now (bytes .exit) ≡ sets (now (bytes .entry)) 0 (flagged flag set) ⌝ }
 {
     put_flag(bytes, 0, flag);
     put_set(bytes, 1, set);

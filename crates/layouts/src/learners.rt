@@ -1,7 +1,7 @@
-// A learner's record.
+// A learner's record. It has 8 places: a greater number of proposers counts as 8.
 ghost use mathlib.Core.Path.{_≡_};
-ghost use Prim.Native.Nat.{_+_, _≤_};
-ghost use lib.ListN.{length, take};
+ghost use Prim.Native.Nat.{_≤_, _<_, min};
+ghost use lib.ListN.{take};
 ghost use lib.Seq.{sets};
 ghost use Rattle.layouts.specs.Layout.{placeOf, heardAt, heardBytes, placesBytes, isLearner, learnerAt, learnerBytes};
 use crate::fields::acceptors_at;
@@ -17,10 +17,12 @@ use crate::fields::sizes_of;
 use model::Heard;
 use model::Learner;
 
-fn heard_at(kept: &[u8], at: usize) -> Heard
-    requires { ⌜ at + 11 ≤ length (now kept) ⌝ }
-    ensures { λ r. ⌜ r ≡ heardAt (now (kept .entry)) at ⌝ }
+// What was heard of one proposer.
+fn heard_at(kept: &[u8], proposer: u16) -> Heard
+    requires { ⌜ proposer < 8 ⌝ }
+    ensures { λ r. ⌜ r ≡ heardAt (now (kept .entry)) (placeOf proposer) ⌝ }
 {
+    let at = 9 + 11 * proposer;
     let number = number_at(kept, at);
     let set = set_at(kept, at + 2);
     let acceptors = acceptors_at(kept, at + 10);
@@ -31,25 +33,35 @@ fn heard_at(kept: &[u8], at: usize) -> Heard
     }
 }
 
-fn put_heard(kept: &mut [u8], at: usize, heard: Heard)
-    requires { ⌜ at + 11 ≤ length (now kept) ⌝ }
-    ensures { λ _. ⌜ now (kept .exit) ≡ sets (now (kept .entry)) at (heardBytes heard) ⌝ }
+fn put_heard(kept: &mut [u8], proposer: u16, heard: Heard)
+    requires { ⌜ proposer < 8 ⌝ }
+    ensures { λ _. ⌜ now (kept .exit) ≡ sets (now (kept .entry)) (placeOf proposer) (heardBytes heard) ⌝ }
 {
+    let at = 9 + 11 * proposer;
     put_number(kept, at, heard.number);
     put_set(kept, at + 2, heard.set);
     put_acceptors(kept, at + 10, heard.acceptors);
 }
 
-pub fn learner_at(kept: &[u8], proposers: usize) -> Learner
-    requires { ⌜ (proposers ≤ 8) × (length (now kept) ≡ placeOf proposers) ⌝ }
+fn at_most_eight(proposers: u16) -> u16
+    ensures { λ r. ⌜ r ≡ min proposers 8 ⌝ }
+{
+    if proposers < 8 {
+        return proposers;
+    }
+    8
+}
+
+pub fn learner_at(kept: &[u8], proposers: u16) -> Learner
     ensures { λ r. ⌜ r ≡ learnerAt proposers (now (kept .entry)) ⌝ }
 {
     let alive = flag_at(kept, 0);
     let learnt = set_at(kept, 1);
+    let count = at_most_eight(proposers);
     let mut heard = [Heard::unheard(); 8];
-    let mut i: usize = 0;
-    while i < proposers {
-        heard[i] = heard_at(kept, 9 + 11 * i);
+    let mut i: u16 = 0;
+    while i < count {
+        heard[i as usize] = heard_at(kept, i);
         i += 1;
     }
     Learner {
@@ -60,25 +72,24 @@ pub fn learner_at(kept: &[u8], proposers: usize) -> Learner
 }
 
 // Puts what was heard of the first proposers.
-fn put_places(kept: &mut [u8], l: Learner, proposers: usize)
-    requires { ⌜ (proposers ≤ 8) × (length (now kept) ≡ placeOf proposers) ⌝ }
-    ensures { λ _. ⌜ now (kept .exit) ≡ sets (now (kept .entry)) 9 (placesBytes (take proposers (l .heard))) ⌝ }
+fn put_places(kept: &mut [u8], l: Learner, count: u16)
+    requires { ⌜ count ≤ 8 ⌝ }
+    ensures { λ _. ⌜ now (kept .exit) ≡ sets (now (kept .entry)) 9 (placesBytes (take count (l .heard))) ⌝ }
 {
-    let mut i: usize = 0;
-    while i < proposers {
-        let heard = l.heard[i];
-        put_heard(kept, 9 + 11 * i, heard);
+    let mut i: u16 = 0;
+    while i < count {
+        let heard = l.heard[i as usize];
+        put_heard(kept, i, heard);
         i += 1;
     }
 }
 
-pub fn put_learner(kept: &mut [u8], l: Learner, proposers: usize)
-    requires { ⌜ (proposers ≤ 8) × (length (now kept) ≡ placeOf proposers) ⌝ }
-    ensures { λ _. ⌜ now (kept .exit) ≡ learnerBytes proposers l ⌝ }
+pub fn put_learner(kept: &mut [u8], l: Learner, proposers: u16)
+    ensures { λ _. ⌜ now (kept .exit) ≡ sets (now (kept .entry)) 0 (learnerBytes proposers l) ⌝ }
 {
     put_flag(kept, 0, l.alive);
     put_set(kept, 1, l.learnt);
-    put_places(kept, l, proposers);
+    put_places(kept, l, at_most_eight(proposers));
 }
 
 // Whether the bytes are a learner's record of a run of these sizes.
@@ -89,12 +100,11 @@ pub fn is_learner(kept: &[u8], proposers: u16, acceptors: u16, scans: u16) -> bo
     if !z.in_range() {
         return false;
     }
-    let count = proposers as usize;
-    if kept.len() != 9 + 11 * count {
+    if kept.len() != 9 + 11 * proposers as usize {
         return false;
     }
     if !is_flag(kept, 0) {
         return false;
     }
-    learner_at(kept, count).in_range(z)
+    learner_at(kept, proposers).in_range(z)
 }

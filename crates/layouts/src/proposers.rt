@@ -1,6 +1,6 @@
 // A proposer's record.
 ghost use mathlib.Core.Path.{_≡_};
-ghost use lib.ListN.{length};
+ghost use lib.Seq.{sets};
 ghost use Rattle.layouts.specs.Layout.{isProposer, proposerAt, proposerBytes};
 use crate::fields::acceptors_at;
 use crate::fields::flag_at;
@@ -15,7 +15,6 @@ use crate::fields::sizes_of;
 use model::Proposer;
 
 pub fn proposer_at(kept: &[u8]) -> Proposer
-    requires { ⌜ length (now kept) ≡ 38 ⌝ }
     ensures { λ r. ⌜ r ≡ proposerAt (now (kept .entry)) ⌝ }
 {
     let alive = flag_at(kept, 0);
@@ -41,8 +40,7 @@ pub fn proposer_at(kept: &[u8]) -> Proposer
 }
 
 pub fn put_proposer(kept: &mut [u8], p: Proposer)
-    requires { ⌜ length (now kept) ≡ 38 ⌝ }
-    ensures { λ _. ⌜ now (kept .exit) ≡ proposerBytes p ⌝ }
+    ensures { λ _. ⌜ now (kept .exit) ≡ sets (now (kept .entry)) 0 (proposerBytes p) ⌝ }
 {
     put_flag(kept, 0, p.alive);
     put_flag(kept, 1, p.active);

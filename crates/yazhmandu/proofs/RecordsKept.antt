@@ -1,11 +1,11 @@
 -- A record that passed its tests passes them again after the call: what a server keeps is never refused with 1 later.
 use mathlib.Core.Bool.{Bool, true, false}
 use mathlib.Core.List.{List}
-use mathlib.Core.Path.{_≡_, ap, _∙_}
-use Prim.Native.Nat.{ℕ, _-_, _≤_}
+use mathlib.Core.Path.{_≡_}
+use Prim.Native.Nat.{ℕ, _≤_}
 use native.Mathlib.Omega.{arith}
 use lib.Dec.{eqb, ltb}
-use lib.ListN.{length, length-set}
+use lib.ListN.{length}
 use borrow.Author.Tests.{eqb-true}
 use Rattle.choice.specs.Choice.{if_then_else_}
 use Rattle.sets.specs.Scans.{fits}
@@ -20,11 +20,10 @@ use Rattle.model.specs.declared.Acceptor.{Acceptor}
 use Rattle.model.specs.declared.Proposer.{Proposer}
 use Rattle.model.proofs.Cases.{if-ind, and-l, and-r, test-passed, rest-passed}
 use Rattle.model.proofs.Enabled.{below-greatest}
-use Rattle.model.proofs.RuleLaws.{listening-heard}
 use Rattle.model.proofs.RuleRanges.{accepting-range, refusing-range, buffering-range, acknowledging-range, rejecting-range, proposing-range, refining-range, deciding-range, listening-range}
 use Rattle.layouts.specs.Layout.{sizesOf, setAt, isSet, isAnswer, isAcceptor, acceptorAt, acceptorBytes, isProposer, proposerAt, proposerBytes, isLearner, learnerAt, learnerBytes}
 use Rattle.layouts.proofs.Parts.{proposer-sizes, learner-sizes, few-proposers, answer-acceptor}
-use Rattle.layouts.proofs.Places.{eight-read}
+use Rattle.layouts.proofs.Places.{eight-listening}
 use Rattle.layouts.proofs.Passing.{acceptor-passes, proposer-passes, learner-passes, set-fits, proposer-range}
 use Rattle.yazhmandu.specs.Calls.{leaves, answerNo, answerRecord, bufferNo, bufferRecord, acknowledgedNo, acknowledgedRecord, rejectedNo, rejectedRecord, proposeCallNo, proposeRecord, refineCallNo, refineRecord, decideCallNo, decideRecord, hearNo, hearRecord}
 
@@ -148,15 +147,14 @@ module _ (p a s : ℕ) (kept : List ℕ) (i j n : ℕ) (set : List ℕ) (x : isL
       rw (t .0, g, h, f)
 
   pub hear-keeps : isLearner p a s (hearRecord p a s kept i j n set) ≡ true
-  unfolding isLearner learnerAt hearRecord
+  unfolding isLearner hearRecord
   hear-keeps =
       let z = sizesOf p a s in
       let e = learner-sizes p a s kept x in
       let l = learnerAt p kept in
       let m = Announcement i j n (setAt set 0) 0 in
       let r : learnerInRange z l ≡ true = search (and-l, and-r) depth 9 in
-      let eight : length (listening a l m .heard) ≡ 8 = ap length (listening-heard a l m) ∙ simp length-set (eight-read p kept (few-proposers p a s e)) in
-      let many : p ≤ length (listening a l m .heard) = omega (arith, few-proposers p a s e) in
+      let many : p ≤ length (listening a l m .heard) = omega (arith, eight-listening a p kept m, few-proposers p a s e) in
       if-ind (λ (b : List ℕ). isLearner p a s b ≡ true) (eqb (hearNo p a s kept i j n set) 0) (learnerBytes p (listening a l m)) kept
       (λ o. learner-passes p a s (listening a l m) many e (listening-range z m (told-range (eqb-true _ _ o)) a l r))
       (λ _. x)

@@ -39,8 +39,7 @@ pub extern "C" fn ymd_hear(
     if !is_set(set, scans) {
         return 3;
     }
-    let count = proposers as usize;
-    let before = learner_at(kept, count);
+    let before = learner_at(kept, proposers);
     if !before.alive {
         return 5;
     }
@@ -53,6 +52,6 @@ pub extern "C" fn ymd_hear(
         set: set_at(set, 0),
     };
     *learns = before.learns(told, acceptors as u32) as u8;
-    put_learner(kept, before.hear(told, acceptors as u32), count);
+    put_learner(kept, before.hear(told, acceptors as u32), proposers);
     0
 }

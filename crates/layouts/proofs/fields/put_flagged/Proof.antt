@@ -1,10 +1,9 @@
 use mathlib.Core.List.{List}
-use mathlib.Core.Path.{sym, ap, _∙_}
-use Prim.Native.Nat.{ℕ, suc}
+use mathlib.Core.Path.{ap, _∙_}
+use Prim.Native.Nat.{ℕ}
 use lib.Seq.{sets}
 use borrow.Author.Needs.{needs}
-use Rattle.layouts.specs.Layout.{setBytes, flagged}
-use Rattle.layouts.proofs.Parts.{length-word, put-whole}
+use Rattle.layouts.specs.Layout.{setBytes}
 use Rattle.layouts.proofs.fields.put_flagged.Statement.{statement}
 use Rattle.layouts.proofs.fields.put_flagged.Tie as tie
 
@@ -22,7 +21,7 @@ returns c =
     let p = c .before .before in
     let q = p .before .before .before .before in
     let s = q .before .before .before in
-    p .put-set .ensures ∙ ap (λ (l : List ℕ). sets l 1 (setBytes (s .args .set))) (q .put-flag .ensures) ∙ put-whole (s .args .bytes .now) (flagged (s .args .flag) (s .args .set)) (s .pre ∙ ap suc (sym (length-word 8 (s .args .set .bits))))
+    p .put-set .ensures ∙ ap (λ (l : List ℕ). sets l 1 (setBytes (s .args .set))) (q .put-flag .ensures)
 
 pub put-flagged-spec : {M : Type 1} → statement M
 put-flagged-spec = tie.close (tie.spec put-flag-requires put-set-requires same-length returns)

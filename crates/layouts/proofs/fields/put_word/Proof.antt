@@ -13,16 +13,16 @@ abbrev μ-loop : tie.MeasureT-loop
 μ-loop bytes₀ at count word rest₀ i₀ bytes rest i = count - i
 
 loop-holds : tie.Need-loop-holds Inv-loop μ-loop
-loop-holds c = put-none (c .args .bytes .now) (c .args .at) (c .args .count) (c .args .word)
+loop-holds c = put-none (c .before .args .bytes .now) (c .before .args .at) (c .before .args .count) (c .before .args .word)
 
-cast-bytes : tie.Need-cast-bytes Inv-loop μ-loop
-cast-bytes c = search needs
+add-put-byte : tie.Need-add-put-byte Inv-loop μ-loop
+add-put-byte c = search needs
 
-add-bytes : tie.Need-add-bytes Inv-loop μ-loop
-add-bytes c = search needs
+cast-put-byte : tie.Need-cast-put-byte Inv-loop μ-loop
+cast-put-byte c = search needs
 
-slice-write-bytes : tie.Need-slice-write-bytes Inv-loop μ-loop
-slice-write-bytes c = search needs
+put-byte-requires : tie.Need-put-byte-requires Inv-loop μ-loop
+put-byte-requires c κs = search needs
 
 add-i : tie.Need-add-i Inv-loop μ-loop
 add-i c = search needs
@@ -32,9 +32,9 @@ loop-less c = search needs
 
 loop-again : tie.Need-loop-again Inv-loop μ-loop
 loop-again c =
-    let l = c .before .loop in
-    let a = c .before .before .args in
-    put-next (a .bytes .now) (a .at) (a .count) (a .word) (l .bytes) (l .rest) (l .i) (l .inv) (omega arith)
+    let l = c .before .before .before .before .before .loop in
+    let a = c .before .before .before .before .before .before .before .args in
+    rw (c .before .before .put-byte .ensures) (put-next (a .bytes .now) (a .at) (a .count) (a .word) (l .bytes) (l .rest) (l .i) (l .inv) (omega arith))
 
 same-length : tie.Need-same-length Inv-loop μ-loop
 same-length c = c .before .loop .inv .same
@@ -42,7 +42,7 @@ same-length c = c .before .loop .inv .same
 returns : tie.Need-returns Inv-loop μ-loop
 returns c =
     let l = c .before .loop in
-    let a = c .before .before .args in
+    let a = c .before .before .before .args in
     put-all (a .bytes .now) (a .at) (a .count) (a .word) (l .bytes) (l .rest) (l .i) (l .inv) (omega arith)
 
 pub put-word-spec : {M : Type 1} → statement M
@@ -52,9 +52,9 @@ put-word-spec =
     Inv-loop
     μ-loop
     loop-holds
-    cast-bytes
-    add-bytes
-    slice-write-bytes
+    add-put-byte
+    cast-put-byte
+    put-byte-requires
     add-i
     loop-less
     loop-again

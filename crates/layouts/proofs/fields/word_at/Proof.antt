@@ -14,7 +14,7 @@ abbrev μ-loop : tie.MeasureT-loop
 μ-loop bytes at count word₀ left₀ word left = left
 
 loop-holds : tie.Need-loop-holds Inv-loop μ-loop
-loop-holds c = taken-none (c .args .bytes .now) (c .args .at) (c .args .count)
+loop-holds c = taken-none (c .before .args .bytes .now) (c .before .args .at) (c .before .args .count)
 
 sub-left : tie.Need-sub-left Inv-loop μ-loop
 sub-left c = search needs
@@ -22,29 +22,25 @@ sub-left c = search needs
 mul-word : tie.Need-mul-word Inv-loop μ-loop
 mul-word c =
     let l = c .before .loop in
-    let a = c .before .before .args in
+    let a = c .before .before .before .args in
     omega (arith, taken-room (a .bytes .now) (a .at) (a .count) (l .word) (l .left) (l .inv) (omega arith) (omega arith))
 
-add-word : tie.Need-add-word Inv-loop μ-loop
-add-word c = search needs
-
-shared-slice-read-word : tie.Need-shared-slice-read-word Inv-loop μ-loop
-shared-slice-read-word c =
-    let l = c .before .before .loop in
-    let a = c .before .before .before .args in
+add-byte-at : tie.Need-add-byte-at Inv-loop μ-loop
+add-byte-at c =
+    let l = c .before .loop in
     omega (arith, l .inv .within)
 
-cast-word : tie.Need-cast-word Inv-loop μ-loop
-cast-word c =
-    let l = c .before .before .loop in
-    let a = c .before .before .before .args in
-    omega (arith, c .shared-slice-known .given (a .at + (l .left - 1)))
+byte-at-requires : tie.Need-byte-at-requires Inv-loop μ-loop
+byte-at-requires c κs = search needs
 
-add-word-2 : tie.Need-add-word-2 Inv-loop μ-loop
-add-word-2 c =
+cast-word : tie.Need-cast-word Inv-loop μ-loop
+cast-word c = search needs
+
+add-word : tie.Need-add-word Inv-loop μ-loop
+add-word c =
     let l = c .before .before .loop in
-    let a = c .before .before .before .args in
-    omega (arith, c .shared-slice-known .given (a .at + (l .left - 1)), taken-room (a .bytes .now) (a .at) (a .count) (l .word) (l .left) (l .inv) (omega arith) (omega arith))
+    let a = c .before .before .before .before .args in
+    omega (arith, taken-room (a .bytes .now) (a .at) (a .count) (l .word) (l .left) (l .inv) (omega arith) (omega arith))
 
 loop-less : tie.Need-loop-less Inv-loop μ-loop
 loop-less c = search needs
@@ -52,13 +48,13 @@ loop-less c = search needs
 loop-again : tie.Need-loop-again Inv-loop μ-loop
 loop-again c =
     let l = c .before .before .loop in
-    let a = c .before .before .before .args in
-    taken-next (a .bytes .now) (a .at) (a .count) (l .word) (l .left) (l .inv) (omega arith) (omega (arith, c .shared-slice-known .given (a .at + (l .left - 1))))
+    let a = c .before .before .before .before .args in
+    rw (c .byte-at .ensures) (taken-next (a .bytes .now) (a .at) (a .count) (l .word) (l .left) (l .inv) (omega arith) (omega (arith, c .before .before .before .shared-slice-known .given (a .at + (l .left - 1)))))
 
 returns : tie.Need-returns Inv-loop μ-loop
 returns c =
     let l = c .before .loop in
-    let a = c .before .before .args in
+    let a = c .before .before .before .args in
     let z : l .left ≡ 0 = omega arith in
     taken-all (a .bytes .now) (a .at) (a .count) (l .word) (rw z at (l .inv))
 
@@ -71,10 +67,10 @@ word-at-spec =
     loop-holds
     sub-left
     mul-word
-    add-word
-    shared-slice-read-word
+    add-byte-at
+    byte-at-requires
     cast-word
-    add-word-2
+    add-word
     loop-less
     loop-again
     returns)

@@ -3,6 +3,12 @@ use Rattle.layouts.specs.Layout.{heardAt}
 use Rattle.layouts.proofs.learners.heard_at.Statement.{statement}
 use Rattle.layouts.proofs.learners.heard_at.Tie as tie
 
+mul-at : tie.Need-mul-at
+mul-at c = search needs
+
+add-at : tie.Need-add-at
+add-at c = search needs
+
 number-at-requires : tie.Need-number-at-requires
 number-at-requires c κs = search needs
 
@@ -26,6 +32,8 @@ pub heard-at-spec : {M : Type 1} → statement M
 heard-at-spec =
     tie.close
     (tie.spec
+    mul-at
+    add-at
     number-at-requires
     add-set-at
     set-at-requires

@@ -4,7 +4,7 @@ use borrow.Author.Tests.{eq-eqb, ne-eqb}
 use borrow.Author.Needs.{needs}
 use Rattle.sizes.specs.Sizes.{sizesInRange}
 use Rattle.layouts.specs.Layout.{sizesOf, isLearner}
-use Rattle.layouts.proofs.Parts.{passed, failed, few-proposers}
+use Rattle.layouts.proofs.Parts.{passed, failed}
 use Rattle.layouts.proofs.learners.is_learner.Statement.{statement}
 use Rattle.layouts.proofs.learners.is_learner.Tie as tie
 
@@ -51,13 +51,7 @@ returns-3 c =
     simp (e, eq-eqb _ _ (t₂ .if2 .left), failed (c .before .is-flag .ensures) (c .if3 .taken))
 
 learner-at-requires : tie.Need-learner-at-requires
-learner-at-requires c κs =
-    let t₂ = c .before .before in
-    let t₁ = t₂ .before in
-    let s = t₁ .before .before .before .before in
-    let z = t₁ .before .before .sizes-of .ensures in
-    let e : sizesInRange (sizesOf (s .args .proposers) (s .args .acceptors) (s .args .scans)) ≡ true = passed (t₁ .before .in-range .ensures ∙ ap sizesInRange z) (t₁ .if1 .left) in
-    (few-proposers (s .args .proposers) (s .args .acceptors) (s .args .scans) e, t₂ .if2 .left)
+learner-at-requires c κs = search needs
 
 in-range-requires-2 : tie.Need-in-range-requires-2
 in-range-requires-2 c κs = search needs

@@ -1,21 +1,21 @@
 -- `layouts::learners::learner_at` meets its contract: the first i places are read. The measure is how many are left.
 use mathlib.Core.List.{List}
 use mathlib.Core.Path.{_≡_, ap, _∙_}
-use Prim.Native.Nat.{_-_, _≤_}
+use Prim.Native.Nat.{_-_, _≤_, min}
 use native.Mathlib.Omega.{arith}
 use lib.ListN.{set}
 use borrow.Author.Needs.{needs}
 use Rattle.model.specs.declared.Heard.{Heard}
 use Rattle.layouts.specs.Layout.{placeOf, heardAt, placesAt, learnerAt}
-use Rattle.layouts.proofs.Places.{places, read-place}
+use Rattle.layouts.proofs.Places.{places, read-place, eight-left}
 use Rattle.layouts.proofs.learners.learner_at.Statement.{statement}
 use Rattle.layouts.proofs.learners.learner_at.Tie as tie
 
 abbrev Inv-loop : tie.InvT-loop
-Inv-loop kept proposers alive learnt heard₀ i₀ heard i = (i ≤ proposers) × (heard ≡ places i kept)
+Inv-loop kept proposers alive learnt count heard₀ i₀ heard i = (i ≤ count) × (count ≤ 8) × (heard ≡ places i kept)
 
 abbrev μ-loop : tie.MeasureT-loop
-μ-loop kept proposers alive learnt heard₀ i₀ heard i = proposers - i
+μ-loop kept proposers alive learnt count heard₀ i₀ heard i = count - i
 
 flag-at-requires : tie.Need-flag-at-requires Inv-loop μ-loop
 flag-at-requires c κs = search needs
@@ -23,21 +23,21 @@ flag-at-requires c κs = search needs
 set-at-requires : tie.Need-set-at-requires Inv-loop μ-loop
 set-at-requires c κs = search needs
 
+at-most-eight-requires : tie.Need-at-most-eight-requires Inv-loop μ-loop
+at-most-eight-requires c κs = search needs
+
 unheard-requires : tie.Need-unheard-requires Inv-loop μ-loop
 unheard-requires c κs = search needs
 
 loop-holds : tie.Need-loop-holds Inv-loop μ-loop
 unfolding placesAt
-loop-holds c = (search needs, simp (c .unheard .ensures))
-
-mul-heard-at : tie.Need-mul-heard-at Inv-loop μ-loop
-mul-heard-at c = search needs
-
-add-heard-at : tie.Need-add-heard-at Inv-loop μ-loop
-add-heard-at c = search needs
+loop-holds c = (search needs, omega (arith, c .before .at-most-eight .ensures), simp (c .unheard .ensures))
 
 heard-at-requires : tie.Need-heard-at-requires Inv-loop μ-loop
 heard-at-requires c κs = search needs
+
+cast-heard : tie.Need-cast-heard Inv-loop μ-loop
+cast-heard c = search needs
 
 mul-heard : tie.Need-mul-heard Inv-loop μ-loop
 mul-heard c = search needs
@@ -53,17 +53,17 @@ loop-less c = search needs
 
 loop-again : tie.Need-loop-again Inv-loop μ-loop
 loop-again c =
-    let s = c .before .before .before .before .before .before .before in
+    let s = c .before .before .before .before .before .before .before .before in
     let l = c .before .before .loop in
-    (search needs, ap (λ (h : Heard). set (l .heard) (l .i) h) (c .heard-at .ensures) ∙ ap (λ (hs : List Heard). set hs (l .i) (heardAt (s .args .kept .now) (placeOf (l .i)))) (l .inv .1) ∙ read-place (l .i) (s .args .kept .now) (omega arith))
+    (search needs, l .inv .1, ap (λ (h : Heard). set (l .heard) (l .i) h) (c .heard-at .ensures) ∙ ap (λ (hs : List Heard). set hs (l .i) (heardAt (s .args .kept .now) (placeOf (l .i)))) (l .inv .2) ∙ read-place (l .i) (s .args .kept .now) (omega arith))
 
 returns : tie.Need-returns Inv-loop μ-loop
 unfolding learnerAt
 returns c =
-    let s = c .before .before .before .before .before .before in
+    let s = c .before .before .before .before .before .before .before in
     let l = c .before .loop in
-    let z : l .i ≡ s .args .proposers = omega arith in
-    simp (c .before .before .before .before .flag-at .ensures, c .before .before .before .set-at .ensures, l .inv .1, z)
+    let z : l .i ≡ min (s .args .proposers) 8 = omega (arith, c .before .before .before .at-most-eight .ensures) in
+    simp (c .before .before .before .before .before .flag-at .ensures, c .before .before .before .before .set-at .ensures, l .inv .2, z, eight-left (s .args .proposers))
 
 pub learner-at-spec : {M : Type 1} → statement M
 learner-at-spec =
@@ -73,11 +73,11 @@ learner-at-spec =
     μ-loop
     flag-at-requires
     set-at-requires
+    at-most-eight-requires
     unheard-requires
     loop-holds
-    mul-heard-at
-    add-heard-at
     heard-at-requires
+    cast-heard
     mul-heard
     array-set-from-heard
     add-i

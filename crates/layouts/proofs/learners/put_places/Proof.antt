@@ -16,26 +16,23 @@ use Rattle.layouts.proofs.learners.put_places.Statement.{statement}
 use Rattle.layouts.proofs.learners.put_places.Tie as tie
 
 abbrev Inv-loop : tie.InvT-loop
-Inv-loop kept₀ proposers l i₀ kept i = (i ≤ proposers) × (length kept ≡ length kept₀) × (kept ≡ sets kept₀ 9 (placesBytes (take i (l .heard))))
+Inv-loop kept₀ count l i₀ kept i = (i ≤ count) × (length kept ≡ length kept₀) × (kept ≡ sets kept₀ 9 (placesBytes (take i (l .heard))))
 
 abbrev μ-loop : tie.MeasureT-loop
-μ-loop kept₀ proposers l i₀ kept i = proposers - i
+μ-loop kept₀ count l i₀ kept i = count - i
 
 loop-holds : tie.Need-loop-holds Inv-loop μ-loop
 unfolding placesBytes
 loop-holds c = (search needs, refl, refl)
+
+cast-heard : tie.Need-cast-heard Inv-loop μ-loop
+cast-heard c = search needs
 
 mul-heard : tie.Need-mul-heard Inv-loop μ-loop
 mul-heard c = search needs
 
 element-copy-out-heard : tie.Need-element-copy-out-heard Inv-loop μ-loop
 element-copy-out-heard c = search needs
-
-mul-put-heard : tie.Need-mul-put-heard Inv-loop μ-loop
-mul-put-heard c = search needs
-
-add-put-heard : tie.Need-add-put-heard Inv-loop μ-loop
-add-put-heard c = search needs
 
 put-heard-requires : tie.Need-put-heard-requires Inv-loop μ-loop
 put-heard-requires c κs = search needs
@@ -62,7 +59,7 @@ returns : tie.Need-returns Inv-loop μ-loop
 returns c =
     let s = c .before .before .before in
     let l = c .before .loop in
-    let z : l .i ≡ s .args .proposers = omega arith in
+    let z : l .i ≡ s .args .count = omega arith in
     l .inv .2 ∙ rw z
 
 pub put-places-spec : {M : Type 1} → statement M
@@ -72,10 +69,9 @@ put-places-spec =
     Inv-loop
     μ-loop
     loop-holds
+    cast-heard
     mul-heard
     element-copy-out-heard
-    mul-put-heard
-    add-put-heard
     put-heard-requires
     add-i
     loop-less

@@ -45,7 +45,7 @@ returns c =
     let p2 = p3 .before .before .before .before in
     let p1 = p2 .before .before .before .before in
     let s = p1 .before .before .before in
-    put-fields (s .args .kept .now) (s .args .p) (s .pre) (p1 .put-flag .ensures) (p2 .put-flag2 .ensures) (p3 .put-set .ensures) (p4 .put-set2 .ensures) (p5 .put-set3 .ensures) (p6 .put-number .ensures) (p7 .put-acceptors .ensures) (p8 .put-acceptors2 .ensures) (p9 .put-set4 .ensures)
+    put-fields (s .args .kept .now) (s .args .p) (p1 .put-flag .ensures) (p2 .put-flag2 .ensures) (p3 .put-set .ensures) (p4 .put-set2 .ensures) (p5 .put-set3 .ensures) (p6 .put-number .ensures) (p7 .put-acceptors .ensures) (p8 .put-acceptors2 .ensures) (p9 .put-set4 .ensures)
 
 pub put-proposer-spec : {M : Type 1} → statement M
 put-proposer-spec =

@@ -1,9 +1,10 @@
-use mathlib.Core.Path.{ap}
-use native.Mathlib.Omega.{arith}
+use mathlib.Core.Path.{_≡_, ap}
+use lib.ListN.{length}
 use borrow.Author.Needs.{needs}
+use Rattle.model.specs.Rules.{accepts, answering}
 use Rattle.model.specs.declared.Acceptor.{Acceptor}
-use Rattle.layouts.specs.Layout.{acceptorBytes}
-use Rattle.layouts.proofs.Parts.{passed, failed, acceptor-length, set-length}
+use Rattle.layouts.specs.Layout.{setAt, acceptorAt, acceptorBytes}
+use Rattle.layouts.proofs.Parts.{passed, failed, flagged-whole, acceptor-length}
 use Rattle.yazhmandu.specs.Calls.{answerNo, answerRecord, answerReply}
 use Rattle.yazhmandu.proofs.acceptor_call.ymd_answer_proposal.Statement.{statement}
 use Rattle.yazhmandu.proofs.acceptor_call.ymd_answer_proposal.Tie as tie
@@ -34,10 +35,7 @@ returns-2 c =
     (simp (e, f), simp (e, f), simp (e, f))
 
 acceptor-at-requires : tie.Need-acceptor-at-requires
-acceptor-at-requires c κs =
-    let t₁ = c .before .before .before in
-    let a = t₁ .before .before .before .before .before .args in
-    acceptor-length (a .scans) (a .kept .now) (passed (t₁ .before .is-acceptor .ensures) (t₁ .if1 .left))
+acceptor-at-requires c κs = search needs
 
 same-length-3 : tie.Need-same-length-3
 same-length-3 c = search needs
@@ -53,19 +51,13 @@ returns-3 c =
     (simp (e, f, g), simp (e, f, g), simp (e, f, g))
 
 set-at-requires : tie.Need-set-at-requires
-set-at-requires c κs =
-    let t₂ = c .before .before .before .before in
-    let a = t₂ .before .before .before .before .before .before .before .args in
-    omega (arith, set-length (a .scans) (a .set .now) (passed (t₂ .before .is-set .ensures) (t₂ .if2 .left)))
+set-at-requires c κs = search needs
 
 answer-requires : tie.Need-answer-requires
 answer-requires c κs = search needs
 
 put-flagged-requires : tie.Need-put-flagged-requires
-put-flagged-requires c κs =
-    let t₁ = c .before .before .before .before .before .before .before .before .before in
-    let a = t₁ .before .before .before .before .before .args in
-    acceptor-length (a .scans) (a .kept .now) (passed (t₁ .before .is-acceptor .ensures) (t₁ .if1 .left))
+put-flagged-requires c κs = search needs
 
 accepts-requires : tie.Need-accepts-requires
 accepts-requires c κs = search needs
@@ -88,7 +80,10 @@ returns-4 c =
     let after = c .before .before .before .before .before .before .before .answer .ensures in
     let given = c .before .before .before .before .before .before .before .before .set-at .ensures in
     let before = t₃ .before .before .acceptor-at .ensures in
-    (simp (e, f, g), simp (e, f, g) (simp (c .before .before .before .before .before .put-flagged .ensures, after, given, before)), simp (e, f, g) (simp (c .put-flagged2 .ensures, c .before .accepts .ensures, after, given, before)))
+    let a = t₁ .before .before .before .before .before .args in
+    let q = answering (acceptorAt (a .kept .now)) (setAt (a .set .now) 0) in
+    let nine : length (a .reply .now) ≡ 9 = search needs in
+    (simp (e, f, g), simp (e, f, g) (simp (c .before .before .before .before .before .put-flagged .ensures, after, given, before) (flagged-whole (a .kept .now) (q .alive) (q .accepted) (acceptor-length (a .scans) (a .kept .now) e))), simp (e, f, g) (simp (c .put-flagged2 .ensures, c .before .accepts .ensures, after, given, before) (flagged-whole (a .reply .now) (accepts (acceptorAt (a .kept .now)) (setAt (a .set .now) 0)) (q .accepted) nine)))
 
 pub ymd-answer-proposal-spec : {M : Type 1} → statement M
 ymd-answer-proposal-spec =

@@ -2,9 +2,12 @@ use mathlib.Core.Path.{ap, _∙_}
 use native.Mathlib.Omega.{arith}
 use borrow.Author.Tests.{lt-ltb, le-ltb}
 use borrow.Author.Needs.{needs}
+use Rattle.model.specs.Rules.{listening}
+use Rattle.model.specs.Table.{Announcement}
 use Rattle.model.specs.declared.Learner.{Learner}
-use Rattle.layouts.specs.Layout.{isLearner}
-use Rattle.layouts.proofs.Parts.{passed, failed, flag-byte, set-length, learner-length, learner-sizes, few-proposers, few-acceptors, answer-acceptor, answer-number}
+use Rattle.layouts.specs.Layout.{setAt, isLearner, learnerAt}
+use Rattle.layouts.proofs.Parts.{passed, failed, flag-byte, learner-sizes, few-proposers, few-acceptors, answer-acceptor, answer-number}
+use Rattle.layouts.proofs.Places.{eight-listening, learner-whole}
 use Rattle.yazhmandu.specs.Calls.{hearNo, hearRecord, hearLearns}
 use Rattle.yazhmandu.proofs.learner_call.ymd_hear.Statement.{statement}
 use Rattle.yazhmandu.proofs.learner_call.ymd_hear.Tie as tie
@@ -66,11 +69,7 @@ returns-4 c =
     (simp (e, f, g, h), simp (e, f, g, h), simp (e, f, g, h))
 
 learner-at-requires : tie.Need-learner-at-requires
-learner-at-requires c κs =
-    let t₁ = c .before .before .before .before .before .before in
-    let a = t₁ .before .before .before .before .before .args in
-    let e = passed {t = isLearner (a .proposers) (a .acceptors) (a .scans) (a .kept .now)} (t₁ .before .is-learner .ensures) (t₁ .if1 .left) in
-    (few-proposers (a .proposers) (a .acceptors) (a .scans) (learner-sizes (a .proposers) (a .acceptors) (a .scans) (a .kept .now) e), learner-length (a .proposers) (a .acceptors) (a .scans) (a .kept .now) e)
+learner-at-requires c κs = search needs
 
 same-length-5 : tie.Need-same-length-5
 same-length-5 c = search needs
@@ -98,25 +97,22 @@ cast-learns c =
     let e = passed {t = isLearner (a .proposers) (a .acceptors) (a .scans) (a .kept .now)} (t₁ .before .is-learner .ensures) (t₁ .if1 .left) in
     omega (arith, t₂ .if2 .left, few-proposers (a .proposers) (a .acceptors) (a .scans) (learner-sizes (a .proposers) (a .acceptors) (a .scans) (a .kept .now) e))
 
-cast-t22 : tie.Need-cast-t22
-cast-t22 c =
+cast-t21 : tie.Need-cast-t21
+cast-t21 c =
     let t₃ = c .before .before .before .before .before .before in
     let t₁ = t₃ .before .before .before in
     let a = t₁ .before .before .before .before .before .args in
     let e = passed {t = isLearner (a .proposers) (a .acceptors) (a .scans) (a .kept .now)} (t₁ .before .is-learner .ensures) (t₁ .if1 .left) in
     omega (arith, answer-acceptor (a .acceptors) (a .acceptor) (a .number) (passed (t₃ .before .is-answer .ensures) (t₃ .if3 .left)), few-acceptors (a .proposers) (a .acceptors) (a .scans) (learner-sizes (a .proposers) (a .acceptors) (a .scans) (a .kept .now) e))
 
-cast-t24 : tie.Need-cast-t24
-cast-t24 c =
+cast-t23 : tie.Need-cast-t23
+cast-t23 c =
     let t₃ = c .before .before .before .before .before .before in
     let a = t₃ .before .before .before .before .before .before .before .before .args in
     omega (arith, answer-number (a .acceptors) (a .acceptor) (a .number) (passed (t₃ .before .is-answer .ensures) (t₃ .if3 .left)))
 
 set-at-requires : tie.Need-set-at-requires
-set-at-requires c κs =
-    let t₄ = c .before .before .before .before in
-    let a = t₄ .before .before .before .before .before .before .before .before .before .before .args in
-    omega (arith, set-length (a .scans) (a .set .now) (passed (t₄ .before .is-set .ensures) (t₄ .if4 .left)))
+set-at-requires c κs = search needs
 
 learns-requires : tie.Need-learns-requires
 learns-requires c κs = search needs
@@ -128,11 +124,7 @@ hear-requires : tie.Need-hear-requires
 hear-requires c κs = search needs
 
 put-learner-requires : tie.Need-put-learner-requires
-put-learner-requires c κs =
-    let t₁ = c .before .before .before .before .before .before .before .before .before .before .before .before .before in
-    let a = t₁ .before .before .before .before .before .args in
-    let e = passed {t = isLearner (a .proposers) (a .acceptors) (a .scans) (a .kept .now)} (t₁ .before .is-learner .ensures) (t₁ .if1 .left) in
-    (few-proposers (a .proposers) (a .acceptors) (a .scans) (learner-sizes (a .proposers) (a .acceptors) (a .scans) (a .kept .now) e), learner-length (a .proposers) (a .acceptors) (a .scans) (a .kept .now) e)
+put-learner-requires c κs = search needs
 
 same-length-6 : tie.Need-same-length-6
 same-length-6 c = search needs
@@ -153,7 +145,8 @@ returns-6 c =
     let i = passed (ap (λ (l : Learner). l .alive) (t₅ .before .before .learner-at .ensures)) (t₅ .if5 .left) in
     let given = c .before .before .before .before .before .before .set-at .ensures in
     let before = t₅ .before .before .learner-at .ensures in
-    (simp (e, f, g, h, i), simp (e, f, g, h, i) (simp (c .before .before .put-learner .ensures, c .before .before .before .hear .ensures, given, before)), simp (e, f, g, h, i) (flag-byte (c .before .before .before .before .before .learns .result) ∙ simp (c .before .before .before .before .before .learns .ensures, given, before)))
+    let told = Announcement (a .proposer) (a .acceptor) (a .number) (setAt (a .set .now) 0) 0 in
+    (simp (e, f, g, h, i), simp (e, f, g, h, i) (simp (c .before .before .put-learner .ensures, c .before .before .before .hear .ensures, given, before) (learner-whole (a .proposers) (a .acceptors) (a .scans) (a .kept .now) (listening (a .acceptors) (learnerAt (a .proposers) (a .kept .now)) told) (eight-listening (a .acceptors) (a .proposers) (a .kept .now) told) e)), simp (e, f, g, h, i) (flag-byte (c .before .before .before .before .before .learns .result) ∙ simp (c .before .before .before .before .before .learns .ensures, given, before)))
 
 pub ymd-hear-spec : {M : Type 1} → statement M
 ymd-hear-spec =
@@ -174,8 +167,8 @@ ymd-hear-spec =
     same-length-5
     returns-5
     cast-learns
-    cast-t22
-    cast-t24
+    cast-t21
+    cast-t23
     set-at-requires
     learns-requires
     cast-learns-2

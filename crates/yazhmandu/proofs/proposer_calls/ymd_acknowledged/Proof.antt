@@ -3,7 +3,7 @@ use native.Mathlib.Omega.{arith}
 use borrow.Author.Needs.{needs}
 use Rattle.model.specs.Rules.{isCurrent}
 use Rattle.model.specs.declared.Proposer.{Proposer}
-use Rattle.layouts.proofs.Parts.{passed, failed, proposer-length, proposer-sizes, few-acceptors, answer-acceptor, answer-number}
+use Rattle.layouts.proofs.Parts.{passed, failed, proposer-whole, proposer-sizes, few-acceptors, answer-acceptor, answer-number}
 use Rattle.yazhmandu.specs.Calls.{acknowledgedNo, acknowledgedRecord}
 use Rattle.yazhmandu.proofs.proposer_calls.ymd_acknowledged.Statement.{statement}
 use Rattle.yazhmandu.proofs.proposer_calls.ymd_acknowledged.Tie as tie
@@ -34,10 +34,7 @@ returns-2 c =
     (simp (e, f), simp (e, f))
 
 proposer-at-requires : tie.Need-proposer-at-requires
-proposer-at-requires c κs =
-    let t₁ = c .before .before .before in
-    let a = t₁ .before .before .before .before .args in
-    proposer-length (a .acceptors) (a .scans) (a .kept .now) (passed (t₁ .before .is-proposer .ensures) (t₁ .if1 .left))
+proposer-at-requires c κs = search needs
 
 same-length-3 : tie.Need-same-length-3
 same-length-3 c = search needs
@@ -88,10 +85,7 @@ acknowledge-requires : tie.Need-acknowledge-requires
 acknowledge-requires c κs = search needs
 
 put-proposer-requires : tie.Need-put-proposer-requires
-put-proposer-requires c κs =
-    let t₁ = c .before .before .before .before .before .before .before .before .before .before in
-    let a = t₁ .before .before .before .before .args in
-    proposer-length (a .acceptors) (a .scans) (a .kept .now) (passed (t₁ .before .is-proposer .ensures) (t₁ .if1 .left))
+put-proposer-requires c κs = search needs
 
 same-length-5 : tie.Need-same-length-5
 same-length-5 c = search needs
@@ -108,7 +102,7 @@ returns-5 c =
     let g = passed (ap (λ (p : Proposer). p .alive) (t₃ .before .before .proposer-at .ensures)) (t₃ .if3 .left) in
     let s = t₁ .before .before .before .before in
     let h = passed (t₄ .before .is-current .ensures ∙ ap (λ (p : Proposer). isCurrent p (s .args .number)) (t₃ .before .before .proposer-at .ensures)) (t₄ .if4 .left) in
-    (simp (e, f, g), simp (e, f, g, h) (simp (c .before .before .put-proposer .ensures, c .before .before .before .acknowledge .ensures, t₃ .before .before .proposer-at .ensures)))
+    (simp (e, f, g), simp (e, f, g, h) (c .before .before .put-proposer .ensures ∙ proposer-whole (s .args .acceptors) (s .args .scans) (s .args .kept .now) _ e ∙ simp (c .before .before .before .acknowledge .ensures, t₃ .before .before .proposer-at .ensures)))
 
 pub ymd-acknowledged-spec : {M : Type 1} → statement M
 ymd-acknowledged-spec =

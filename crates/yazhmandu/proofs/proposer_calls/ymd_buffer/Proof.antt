@@ -1,8 +1,7 @@
-use mathlib.Core.Path.{ap}
-use native.Mathlib.Omega.{arith}
+use mathlib.Core.Path.{ap, _∙_}
 use borrow.Author.Needs.{needs}
 use Rattle.model.specs.declared.Proposer.{Proposer}
-use Rattle.layouts.proofs.Parts.{passed, failed, proposer-length, set-length}
+use Rattle.layouts.proofs.Parts.{passed, failed, proposer-whole}
 use Rattle.yazhmandu.specs.Calls.{bufferNo, bufferRecord}
 use Rattle.yazhmandu.proofs.proposer_calls.ymd_buffer.Statement.{statement}
 use Rattle.yazhmandu.proofs.proposer_calls.ymd_buffer.Tie as tie
@@ -33,10 +32,7 @@ returns-2 c =
     (simp (e, f), simp (e, f))
 
 proposer-at-requires : tie.Need-proposer-at-requires
-proposer-at-requires c κs =
-    let t₁ = c .before .before .before in
-    let a = t₁ .before .before .before .before .before .args in
-    proposer-length (a .acceptors) (a .scans) (a .kept .now) (passed (t₁ .before .is-proposer .ensures) (t₁ .if1 .left))
+proposer-at-requires c κs = search needs
 
 same-length-3 : tie.Need-same-length-3
 same-length-3 c = search needs
@@ -52,19 +48,13 @@ returns-3 c =
     (simp (e, f, g), simp (e, f, g))
 
 set-at-requires : tie.Need-set-at-requires
-set-at-requires c κs =
-    let t₂ = c .before .before .before .before .before in
-    let a = t₂ .before .before .before .before .before .before .before .args in
-    omega (arith, set-length (a .scans) (a .set .now) (passed (t₂ .before .is-set .ensures) (t₂ .if2 .left)))
+set-at-requires c κs = search needs
 
 buffer-requires : tie.Need-buffer-requires
 buffer-requires c κs = search needs
 
 put-proposer-requires : tie.Need-put-proposer-requires
-put-proposer-requires c κs =
-    let t₁ = c .before .before .before .before .before .before .before .before .before in
-    let a = t₁ .before .before .before .before .before .args in
-    proposer-length (a .acceptors) (a .scans) (a .kept .now) (passed (t₁ .before .is-proposer .ensures) (t₁ .if1 .left))
+put-proposer-requires c κs = search needs
 
 same-length-4 : tie.Need-same-length-4
 same-length-4 c = search needs
@@ -78,7 +68,8 @@ returns-4 c =
     let e = passed (t₁ .before .is-proposer .ensures) (t₁ .if1 .left) in
     let f = passed (t₂ .before .is-set .ensures) (t₂ .if2 .left) in
     let g = passed (ap (λ (p : Proposer). p .alive) (t₃ .before .before .proposer-at .ensures)) (t₃ .if3 .left) in
-    (simp (e, f, g), simp (e, f, g) (simp (c .before .before .put-proposer .ensures, c .before .before .before .buffer .ensures, t₃ .before .before .proposer-at .ensures, c .before .before .before .before .set-at .ensures)))
+    let s = t₁ .before .before .before .before .before in
+    (simp (e, f, g), simp (e, f, g) (c .before .before .put-proposer .ensures ∙ proposer-whole (s .args .acceptors) (s .args .scans) (s .args .kept .now) _ e ∙ simp (c .before .before .before .buffer .ensures, t₃ .before .before .proposer-at .ensures, c .before .before .before .before .set-at .ensures)))
 
 pub ymd-buffer-spec : {M : Type 1} → statement M
 ymd-buffer-spec =

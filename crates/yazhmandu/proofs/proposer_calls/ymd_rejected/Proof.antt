@@ -3,7 +3,7 @@ use native.Mathlib.Omega.{arith}
 use borrow.Author.Needs.{needs}
 use Rattle.model.specs.Rules.{isCurrent}
 use Rattle.model.specs.declared.Proposer.{Proposer}
-use Rattle.layouts.proofs.Parts.{passed, failed, proposer-length, set-length, proposer-sizes, few-acceptors, answer-acceptor, answer-number}
+use Rattle.layouts.proofs.Parts.{passed, failed, proposer-whole, proposer-sizes, few-acceptors, answer-acceptor, answer-number}
 use Rattle.yazhmandu.specs.Calls.{rejectedNo, rejectedRecord}
 use Rattle.yazhmandu.proofs.proposer_calls.ymd_rejected.Statement.{statement}
 use Rattle.yazhmandu.proofs.proposer_calls.ymd_rejected.Tie as tie
@@ -50,10 +50,7 @@ returns-3 c =
     (simp (e, f, g), simp (e, f, g))
 
 proposer-at-requires : tie.Need-proposer-at-requires
-proposer-at-requires c κs =
-    let t₁ = c .before .before .before .before .before in
-    let a = t₁ .before .before .before .before .before .args in
-    proposer-length (a .acceptors) (a .scans) (a .kept .now) (passed (t₁ .before .is-proposer .ensures) (t₁ .if1 .left))
+proposer-at-requires c κs = search needs
 
 same-length-4 : tie.Need-same-length-4
 same-length-4 c = search needs
@@ -105,19 +102,13 @@ cast-t19 c =
     omega (arith, answer-acceptor (a .acceptors) (a .acceptor) (a .number) (passed (t₂ .before .is-answer .ensures) (t₂ .if2 .left)), few-acceptors 1 (a .acceptors) (a .scans) (proposer-sizes (a .acceptors) (a .scans) (a .kept .now) (passed (t₁ .before .is-proposer .ensures) (t₁ .if1 .left))))
 
 set-at-requires : tie.Need-set-at-requires
-set-at-requires c κs =
-    let t₃ = c .before .before .before .before .before .before .before in
-    let a = t₃ .before .before .before .before .before .before .before .before .before .args in
-    omega (arith, set-length (a .scans) (a .set .now) (passed (t₃ .before .is-set .ensures) (t₃ .if3 .left)))
+set-at-requires c κs = search needs
 
 reject-requires : tie.Need-reject-requires
 reject-requires c κs = search needs
 
 put-proposer-requires : tie.Need-put-proposer-requires
-put-proposer-requires c κs =
-    let t₁ = c .before .before .before .before .before .before .before .before .before .before .before .before .before in
-    let a = t₁ .before .before .before .before .before .args in
-    proposer-length (a .acceptors) (a .scans) (a .kept .now) (passed (t₁ .before .is-proposer .ensures) (t₁ .if1 .left))
+put-proposer-requires c κs = search needs
 
 same-length-6 : tie.Need-same-length-6
 same-length-6 c = search needs
@@ -136,7 +127,7 @@ returns-6 c =
     let h = passed (ap (λ (p : Proposer). p .alive) (t₄ .before .before .proposer-at .ensures)) (t₄ .if4 .left) in
     let s = t₁ .before .before .before .before .before in
     let i = passed (t₅ .before .is-current .ensures ∙ ap (λ (p : Proposer). isCurrent p (s .args .number)) (t₄ .before .before .proposer-at .ensures)) (t₅ .if5 .left) in
-    (simp (e, f, g, h), simp (e, f, g, h, i) (simp (c .before .before .put-proposer .ensures, c .before .before .before .reject .ensures, t₄ .before .before .proposer-at .ensures, c .before .before .before .before .set-at .ensures)))
+    (simp (e, f, g, h), simp (e, f, g, h, i) (c .before .before .put-proposer .ensures ∙ proposer-whole (s .args .acceptors) (s .args .scans) (s .args .kept .now) _ e ∙ simp (c .before .before .before .reject .ensures, t₄ .before .before .proposer-at .ensures, c .before .before .before .before .set-at .ensures)))
 
 pub ymd-rejected-spec : {M : Type 1} → statement M
 ymd-rejected-spec =

@@ -12,7 +12,7 @@ f = Function(
 ''',
     structs=RECORDS + [
         ('Event', 'Ev', 'Rattle.model.proofs.Event', 'Rattle.model.specs.declared.Event'),
-        ('Send', 'Sd', CRATE + '.sending.Send', 'Rattle.machine.specs.declared.sending.Send'),
+        ('Send', 'Sd', 'Rattle.decisions.proofs.sending.Send', 'Rattle.decisions.specs.declared.sending.Send'),
         ('Decision', 'Dn', CRATE + '.step.Decision', 'Rattle.machine.specs.declared.step.Decision'),
         ('Answer', 'An', 'Rattle.model.proofs.Answer', 'Rattle.model.specs.declared.Answer'),
     ],
@@ -39,9 +39,9 @@ f = Function(
         ('in-a', 'ai < length acs', 'acceptor-there z ps acs ls t fit i'), ('in-l', 'li < length ls', 'learner-there z ps acs ls t fit i'),
         ('ready', 'Ready (f .change .send) t₁', 'ready-after %s in-k' % six)],
     uses=('''use Rattle.model.specs.Table.{post}
-use Rattle.machine.specs.Sending.{itemsOf, lacking}
+use Rattle.decisions.specs.Sending.{itemsOf, lacking}
 use Rattle.machine.specs.Slots.{Ready}
-use Rattle.machine.specs.Change.{learnerAfter, slotAfter}
+use Rattle.decisions.specs.Change.{learnerAfter, slotAfter}
 use Rattle.machine.specs.Stepping.{within, partyOf, replyOf, theMessage, theProposer, theAcceptor, theLearner, theDecision, finished, Fits}
 ''', '''use Rattle.machine.proofs.Readiness.{proposer-there, acceptor-there, learner-there, slot-there, ready-after}
 '''))

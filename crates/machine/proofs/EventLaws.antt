@@ -27,14 +27,14 @@ use Rattle.model.specs.declared.Answer.{Answer}
 use Rattle.model.specs.declared.Answer.the-variants.{Ok}
 use Rattle.model.proofs.Cases.{and-l, and-r, test-passed, rest-passed, no-refusal}
 use Rattle.model.proofs.RuleRanges.{all-at}
-use Rattle.machine.specs.declared.decide.Change.{Change}
-use Rattle.machine.specs.Sending.{itemsOf}
-use Rattle.machine.specs.Change.{asProposer, asScan, acceptorSends, answeringOf, acknowledgedBy, rejectedBy, deliveringOf, crashingOf, receivingOf, changeOf, learnerAfter, slotAfter, learnerAnswer, answerOf}
-use Rattle.machine.specs.Refusals.{aliveIn, testNo}
+use Rattle.decisions.specs.declared.decide.Change.{Change}
+use Rattle.decisions.specs.Sending.{itemsOf}
+use Rattle.decisions.specs.Change.{asProposer, asScan, acceptorSends, answeringOf, acknowledgedBy, rejectedBy, deliveringOf, crashingOf, receivingOf, changeOf, learnerAfter, slotAfter, learnerAnswer, answerOf}
+use Rattle.decisions.specs.Refusals.{aliveIn, testNo}
+use Rattle.decisions.proofs.Bounds.{bounds}
+use Rattle.decisions.proofs.Items.{items-silence, items-one, items-everyone, items-others, items-acknowledgements}
 use Rattle.machine.specs.Stepping.{partyAt}
-use Rattle.machine.proofs.Bounds.{bounds}
 use Rattle.machine.proofs.Readiness.{same}
-use Rattle.machine.proofs.Items.{items-silence, items-one, items-everyone, items-others, items-acknowledgements}
 
 -- ---- numbers that pass the tests are what the code makes of them
 

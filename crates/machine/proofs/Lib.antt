@@ -1,17 +1,13 @@
 pub mod Again
-pub mod Bounds
 pub mod Called
 pub mod Calling
-pub mod Dispatch
 pub mod Filling
 pub mod LentCalls
 pub mod Loading
 pub mod Locals
 pub mod Posting
 pub mod Searching
-pub mod Sendable
 pub mod Readiness
-pub mod Items
 pub mod EventLaws
 pub mod StepLaws
 pub mod RunLaws

@@ -26,10 +26,9 @@ use Rattle.model.specs.declared.Event.{Event}
 use Rattle.model.proofs.Cases.{and-l, and-r, and-i}
 use Rattle.model.proofs.States.{length-post}
 use Rattle.model.proofs.InRange.{run-in-range}
+use Rattle.decisions.specs.Sending.{isTaken, itemsOf}
+use Rattle.decisions.specs.Change.{learnerAfter, slotAfter}
 use Rattle.machine.specs.declared.step.Decision.{Decision}
-use Rattle.machine.specs.Sending.{itemsOf}
-use Rattle.machine.specs.Slots.{isTaken}
-use Rattle.machine.specs.Change.{learnerAfter, slotAfter}
 use Rattle.machine.specs.Stepping.{within, partyOf, decideOf, finishOf, replyOf, Fits, Left, theMessage, stepOf}
 use Rattle.machine.specs.Running.{eventOf, eventsIn, noted, Ran, onward, ranTo, driven, Drives}
 use Rattle.machine.specs.Calls.{logged, hasNumbers, wholeNo, wholeRunNo, logAfterWholeRun, turnsOf}

@@ -12,9 +12,9 @@ use Rattle.choice.specs.Choice.{if_then_else_}
 use Rattle.model.specs.Table.{isFree, freeSlots, place, post, from}
 use Rattle.model.specs.Ranges.{all}
 use Rattle.model.specs.declared.Message.{Message}
-use Rattle.machine.specs.declared.sending.Send.{Send}
-use Rattle.machine.specs.Sending.{itemOf, itemsOf, lacking}
-use Rattle.machine.specs.Slots.{isTaken, lowest, lowestFrom, FreeFrom, Ready}
+use Rattle.decisions.specs.declared.sending.Send.{Send}
+use Rattle.decisions.specs.Sending.{isTaken, itemOf, itemsOf, lacking}
+use Rattle.machine.specs.Slots.{lowest, lowestFrom, FreeFrom, Ready}
 
 -- ---- the lowest free slot
 

@@ -17,15 +17,15 @@ use Rattle.model.specs.declared.Acceptor.{Acceptor}
 use Rattle.model.specs.declared.Learner.{Learner}
 use Rattle.model.specs.declared.Message.{Message}
 use Rattle.model.specs.declared.Event.{Event}
-use Rattle.machine.specs.declared.decide.Change.{Change}
+use Rattle.decisions.specs.declared.decide.Change.{Change}
+use Rattle.decisions.specs.Sending.{isTaken, lacking}
+use Rattle.decisions.specs.Change.{unchanged, changeOf, slotAfter}
+use Rattle.decisions.specs.Refusals.{testNo}
+use Rattle.decisions.proofs.Bounds.{bounds}
+use Rattle.decisions.proofs.Sendable.{Sendable, silent, sendable}
 use Rattle.machine.specs.declared.step.Decision.{Decision}
-use Rattle.machine.specs.Sending.{lacking}
-use Rattle.machine.specs.Slots.{isTaken, Ready}
-use Rattle.machine.specs.Change.{unchanged, changeOf, slotAfter}
-use Rattle.machine.specs.Refusals.{testNo}
+use Rattle.machine.specs.Slots.{Ready}
 use Rattle.machine.specs.Stepping.{within, needOf, decideOf, refusedOf, finishOf, theMessage, theProposer, theAcceptor, theLearner, theDecision, finished, Fits}
-use Rattle.machine.proofs.Bounds.{bounds}
-use Rattle.machine.proofs.Sendable.{Sendable, silent, sendable}
 
 -- ---- the records that an event finds are there
 

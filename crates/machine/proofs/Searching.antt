@@ -10,8 +10,8 @@ use Rattle.choice.specs.Choice.{if_then_else_}
 use Rattle.model.specs.Records.{freeSlot}
 use Rattle.model.specs.Table.{isFree, freeSlots}
 use Rattle.model.specs.declared.Message.{Message}
-use Rattle.machine.specs.Sending.{lacking}
-use Rattle.machine.specs.Slots.{isTaken, leftAfter, searching, lowest, lowestFrom, FreeFrom}
+use Rattle.decisions.specs.Sending.{isTaken, lacking}
+use Rattle.machine.specs.Slots.{leftAfter, searching, lowest, lowestFrom, FreeFrom}
 use Rattle.machine.proofs.Turns.{drop-next}
 
 -- ---- the search for room

@@ -23,17 +23,16 @@ use Rattle.model.specs.declared.Event.{Event}
 use Rattle.model.specs.declared.Answer.the-variants.{Refused}
 use Rattle.model.proofs.Steps.{does, refusal-keeps}
 use Rattle.model.proofs.InRange.{test-ranges, sizes-in-range}
-use Rattle.machine.specs.declared.decide.Change.{Change}
+use Rattle.decisions.specs.declared.decide.Change.{Change}
+use Rattle.decisions.specs.Sending.{isTaken, itemsOf, lacking}
+use Rattle.decisions.specs.Change.{changeOf, learnerAfter, slotAfter, answerOf}
+use Rattle.decisions.specs.Refusals.{testNo}
+use Rattle.decisions.proofs.Sendable.{sendable}
+use Rattle.decisions.proofs.Bounds.{bounds}
+use Rattle.decisions.proofs.Items.{items-silence, items-count}
 use Rattle.machine.specs.declared.step.Decision.{Decision}
-use Rattle.machine.specs.Sending.{itemsOf, lacking}
-use Rattle.machine.specs.Slots.{isTaken}
-use Rattle.machine.specs.Change.{changeOf, learnerAfter, slotAfter, answerOf}
-use Rattle.machine.specs.Refusals.{testNo}
 use Rattle.machine.specs.Stepping.{within, partyOf, needOf, decideOf, refusedOf, finishOf, replyOf, Left, theMessage, theProposer, theAcceptor, theLearner, stepOf}
-use Rattle.machine.proofs.Sendable.{sendable}
-use Rattle.machine.proofs.Bounds.{bounds}
 use Rattle.machine.proofs.Readiness.{within-in, same, freed, need-none}
-use Rattle.machine.proofs.Items.{items-silence, items-count}
 use Rattle.machine.proofs.EventLaws.{At, Does, Law, event-law}
 
 -- a step on lent records answers what the model's step answers, and leaves what it leaves

@@ -1,7 +1,4 @@
-pub mod Sending
 pub mod Slots
-pub mod Change
-pub mod Refusals
 pub mod Stepping
 pub mod Running
 pub mod Calls

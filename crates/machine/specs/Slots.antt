@@ -1,6 +1,6 @@
 -- The table searched for free slots, as the code searches it.
 use mathlib.Core.Path.{_≡_}
-use mathlib.Core.Bool.{Bool, true, not, _&&_}
+use mathlib.Core.Bool.{Bool, true, _&&_}
 use mathlib.Core.List.{List, [], _∷_}
 use Prim.Native.Nat.{ℕ, suc, _+_, _-_, _<_}
 use lib.Dec.{ltb}
@@ -10,12 +10,8 @@ use Rattle.sets.specs.Scans.{empty}
 use Rattle.model.specs.Table.{isFree}
 use Rattle.model.specs.Ranges.{all}
 use Rattle.model.specs.declared.Message.{Message}
-use Rattle.machine.specs.declared.sending.Send.{Send}
-use Rattle.machine.specs.Sending.{itemsOf, lacking}
-
--- a message takes its slot
-abbrev pub isTaken : Message → Bool
-isTaken m = not (isFree m)
+use Rattle.decisions.specs.declared.sending.Send.{Send}
+use Rattle.decisions.specs.Sending.{isTaken, itemsOf, lacking}
 
 -- a slot that no run uses: it is never free
 abbrev pub takenSlot : Message

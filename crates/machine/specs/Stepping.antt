@@ -18,11 +18,11 @@ use Rattle.model.specs.declared.Message.{Message}
 use Rattle.model.specs.declared.Event.{Event}
 use Rattle.model.specs.declared.Answer.{Answer}
 use Rattle.model.specs.declared.Answer.the-variants.{Refused}
-use Rattle.machine.specs.declared.decide.Change.{Change}
+use Rattle.decisions.specs.declared.decide.Change.{Change}
+use Rattle.decisions.specs.Sending.{itemsOf, lacking}
+use Rattle.decisions.specs.Change.{unchanged, changeOf, learnerAfter, slotAfter, answerOf}
+use Rattle.decisions.specs.Refusals.{testNo}
 use Rattle.machine.specs.declared.step.Decision.{Decision}
-use Rattle.machine.specs.Sending.{itemsOf, lacking}
-use Rattle.machine.specs.Change.{unchanged, changeOf, learnerAfter, slotAfter, answerOf}
-use Rattle.machine.specs.Refusals.{testNo}
 
 -- ---- which records an event finds
 

@@ -1,6 +1,5 @@
 // The step machine: events on the records that a caller lends, and a whole run on records of its own.
 pub mod calls;
-mod decide;
 mod lent;
 mod running;
 mod sending;

@@ -1,42 +1,11 @@
-// The messages that an event sends, described by how many there are and what they are made of.
+// The messages that an event sends, one by one, of what describes them.
 ghost use mathlib.Core.Path.{_≡_};
 ghost use Prim.Native.Nat.{_<_};
 ghost use Rattle.model.specs.Table.{Acknowledgement};
-ghost use Rattle.machine.specs.Sending.{silence, one, addressedTo, itemOf};
+ghost use Rattle.decisions.specs.Sending.{addressedTo, itemOf};
+use decisions::sending::Send;
 use model::Message;
 use sets::ProposerId;
-
-// The messages to send: `count` of them, made of one by their shape.
-// Shape 0: the message itself. 1: to everyone from 0. 2: to everyone but `except`. 3: an acknowledgement to its proposer, then to every learner.
-pub struct Send {
-    pub shape: u8,
-    pub count: u8,
-    pub except: u8,
-    pub message: Message,
-}
-
-pub fn silence_of() -> Send
-    ensures { λ r. ⌜ r ≡ silence ⌝ }
-{
-    let message = Message::free();
-    Send {
-        shape: 0,
-        count: 0,
-        except: 0,
-        message,
-    }
-}
-
-pub fn one_of(message: Message) -> Send
-    ensures { λ r. ⌜ r ≡ one message ⌝ }
-{
-    Send {
-        shape: 0,
-        count: 1,
-        except: 0,
-        message,
-    }
-}
 
 pub fn count_of(send: Send) -> u8
     ensures { λ r. ⌜ r ≡ send .count ⌝ }

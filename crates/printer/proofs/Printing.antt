@@ -31,7 +31,7 @@ use Rattle.model.proofs.Lists.{All, none, also}
 use Rattle.model.proofs.Answers.{Named, namesNone, namesLearner, namesProposer, namesRefusal, all-named}
 use Rattle.machine.specs.Running.{eventOf, eventsIn}
 use Rattle.machine.specs.Calls.{hasNumbers, logged, logAfterWholeRun}
-use Rattle.machine.proofs.Bounds.{bounds}
+use Rattle.decisions.proofs.Bounds.{bounds}
 use Rattle.machine.proofs.RunLaws.{length-from, length-answers}
 use Rattle.printer.specs.Log.{answersIn, Small}
 use Rattle.printer.specs.Text.{runText, refusedText, longestText, Short, putAnswer, afterPut}

@@ -41,7 +41,8 @@ use denote.Triple.Table.{entered, cited}
 use denote.Triple.Walked.{says, needs, Stays, stay-none, stay-none-slice, walkOf, goes-none, goes-none-slice, Walks, ends-at, walked, walk-meets}
 use denote.Exit.{yes}
 use Rattle.model.specs.Records.{freeSlot}
-use Rattle.machine.specs.Slots.{isTaken, lowestFrom, FreeFrom}
+use Rattle.decisions.specs.Sending.{isTaken}
+use Rattle.machine.specs.Slots.{lowestFrom, FreeFrom}
 use Rattle.machine.proofs.Called.{calls-value}
 use Rattle.machine.proofs.Turns.{tests, Nearer, Nearer-wf, fits-place, below, falls}
 use Rattle.machine.proofs.Searching.{next-on, next-off, next-inside}

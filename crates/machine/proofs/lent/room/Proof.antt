@@ -41,7 +41,7 @@ use denote.Triple.Table.{entered, cited}
 use denote.Triple.Walked.{says, Stays, stay-none, stay-none-slice, walkOf, goes-none, goes-none-slice, Walks, ends-at, walked, walk-meets}
 use denote.Exit.{yes}
 use Rattle.model.specs.Records.{freeSlot}
-use Rattle.machine.specs.Sending.{lacking}
+use Rattle.decisions.specs.Sending.{lacking}
 use Rattle.machine.specs.Slots.{leftAfter, searching}
 use Rattle.machine.proofs.Called.{calls-value}
 use Rattle.machine.proofs.Turns.{tests, Nearer, Nearer-wf, fits-place, fits-next, below, falls}

@@ -39,7 +39,8 @@ use denote.Triple.Table.{entered, cited}
 use denote.Triple.Walked.{says, needs, Stays, stay-none, stay-slice, walkOf, goes-none, goes-slice, Walks, ends-at, walked, walk-meets}
 use denote.Exit.{yes}
 use Rattle.model.specs.Table.{post}
-use Rattle.machine.specs.Sending.{itemOf, itemsOf}
+use Rattle.decisions.specs.Sending.{itemOf, itemsOf}
+use Rattle.decisions.specs.declared.sending.Send.{Send}
 use Rattle.machine.specs.Slots.{lowestFrom, Ready}
 use Rattle.machine.proofs.Called.{calls-value}
 use Rattle.machine.proofs.Again.{Slice, listAt}
@@ -49,9 +50,8 @@ use Rattle.machine.proofs.Posting.{Sends, begin, free, next, last}
 use Rattle.model.specs.declared.Message.{Message}
 use Rattle.model.proofs.Message as Ms
 use Rattle.model.proofs.Message.Laws as Ms′
-use Rattle.machine.specs.declared.sending.Send.{Send}
-use Rattle.machine.proofs.sending.Send as Sd
-use Rattle.machine.proofs.sending.Send.Laws as Sd′
+use Rattle.decisions.proofs.sending.Send as Sd
+use Rattle.decisions.proofs.sending.Send.Laws as Sd′
 use Rattle.machine.proofs.sending.count_of as count-of
 use Rattle.machine.proofs.sending.count_of.Symbol as count-of-def
 use Rattle.machine.proofs.sending.count_of.Symbol.{name as #count-of}

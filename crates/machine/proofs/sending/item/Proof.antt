@@ -3,7 +3,7 @@ use mathlib.Core.List.{[], _∷_}
 use Prim.Native.Nat.{ℕ, zero, suc}
 use lib.ListN.{getD}
 use borrow.Author.Tests.{lt-ltb, le-ltb, eq-eqb, ne-eqb}
-use Rattle.machine.specs.Sending.{itemOf}
+use Rattle.decisions.specs.Sending.{itemOf}
 use borrow.Author.Needs.{needs}
 use Rattle.machine.proofs.sending.item.Statement.{statement}
 use Rattle.machine.proofs.sending.item.Tie as tie

@@ -5,7 +5,7 @@ use Rattle.machine.proofs.step.finish.Statement.{statement}
 use Rattle.machine.proofs.step.finish.Tie as tie
 use Rattle.machine.proofs.step.finish.Reads as reads
 use Rattle.machine.proofs.step.finish.Lts as lts
-use Rattle.machine.proofs.decide.unchanged_of.Reads as unchanged-of-reads
+use Rattle.decisions.proofs.decide.unchanged_of.Reads as unchanged-of-reads
 
 -- src/step.rt:131:9
 unchanged-of-requires : tie.Need-unchanged-of-requires

@@ -5,7 +5,7 @@ use Rattle.machine.proofs.step.reply.Statement.{statement}
 use Rattle.machine.proofs.step.reply.Tie as tie
 use Rattle.machine.proofs.step.reply.Reads as reads
 use Rattle.machine.proofs.step.reply.Lts as lts
-use Rattle.machine.proofs.decide.answer.Reads as answer-reads
+use Rattle.decisions.proofs.decide.answer.Reads as answer-reads
 
 -- src/step.rt:187:9
 answer-requires : tie.Need-answer-requires

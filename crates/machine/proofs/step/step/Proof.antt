@@ -38,9 +38,9 @@ use denote.Triple.Table.{entered, cited}
 use denote.Triple.Walked.{says, needs, Stays, stay-none, stay-slice, walkOf, goes-none, goes-slice, Walks, ends-at, walked, walk-meets}
 use denote.Exit.{yes}
 use Rattle.model.specs.Table.{post}
-use Rattle.machine.specs.Sending.{itemsOf, lacking}
+use Rattle.decisions.specs.Sending.{itemsOf, lacking}
 use Rattle.machine.specs.Slots.{Ready}
-use Rattle.machine.specs.Change.{learnerAfter, slotAfter}
+use Rattle.decisions.specs.Change.{learnerAfter, slotAfter}
 use Rattle.machine.specs.Stepping.{within, partyOf, replyOf, theMessage, theProposer, theAcceptor, theLearner, theDecision, finished, Fits}
 use Rattle.machine.proofs.Again.{Slice, listAt}
 use Rattle.machine.proofs.Called.{calls-value}
@@ -64,9 +64,9 @@ use Rattle.sizes.proofs.Sizes.Laws as Sz′
 use Rattle.model.specs.declared.Event.{Event}
 use Rattle.model.proofs.Event as Ev
 use Rattle.model.proofs.Event.Laws as Ev′
-use Rattle.machine.specs.declared.sending.Send.{Send}
-use Rattle.machine.proofs.sending.Send as Sd
-use Rattle.machine.proofs.sending.Send.Laws as Sd′
+use Rattle.decisions.specs.declared.sending.Send.{Send}
+use Rattle.decisions.proofs.sending.Send as Sd
+use Rattle.decisions.proofs.sending.Send.Laws as Sd′
 use Rattle.machine.specs.declared.step.Decision.{Decision}
 use Rattle.machine.proofs.step.Decision as Dn
 use Rattle.machine.proofs.step.Decision.Laws as Dn′

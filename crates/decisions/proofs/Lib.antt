@@ -1,0 +1,4 @@
+pub mod Bounds
+pub mod Dispatch
+pub mod Items
+pub mod Sendable

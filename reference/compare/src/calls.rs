@@ -5,6 +5,9 @@
 
 use compare::machine::form::{Acceptor, Learner, Message, Proposer, Sizes};
 
+#[allow(dead_code)]
+pub mod site;
+
 mod c {
     use super::{Acceptor, Learner, Message, Proposer, Sizes};
 

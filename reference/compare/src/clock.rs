@@ -137,12 +137,17 @@ fn times_about_the_age(_: &mut Rng) -> Outcome {
 fn random_times(rng: &mut Rng) -> Outcome {
     let mut comparisons = Comparisons::new();
     for _ in 0..RANDOM_TIMES {
-        let dock = random_tick(rng);
-        let scan = random_tick(rng);
-        let time = random_time(rng);
-        compare(&mut comparisons, dock, scan, time)?;
+        random_scan(&mut comparisons, rng)?;
     }
     comparisons.made()
+}
+
+/// The time of a scan of random ticks.
+pub fn random_scan(comparisons: &mut Comparisons, rng: &mut Rng) -> Result<(), String> {
+    let dock = random_tick(rng);
+    let scan = random_tick(rng);
+    let time = random_time(rng);
+    compare(comparisons, dock, scan, time)
 }
 
 /// A tick, an edge of its range half of the time.

@@ -11,12 +11,11 @@ mod fields;
 pub mod form;
 mod fresh;
 pub mod lent;
-mod runs;
+pub mod runs;
 pub mod second;
 mod sizes;
-mod steps;
-#[cfg(test)]
-mod wrong;
+pub mod steps;
+pub mod wrong;
 
 /// How many numbers an event has: code, a, b.
 pub const EVENT: usize = 3;

@@ -10,7 +10,7 @@ use crate::forms::shown::{Bytes, Numbers};
 use crate::suite::{Comparisons, Tests};
 use crate::tables::whole_records;
 
-mod random;
+pub mod random;
 mod stated;
 
 pub const TESTS: Tests = &[

@@ -56,9 +56,8 @@ struct Schedule {
 }
 
 impl Schedule {
-    fn drawn(rng: &mut Rng, style: Style) -> Schedule {
-        let count = rng.within(SHORTEST, LONGEST) as usize;
-        let (sizes, events) = generate(rng, style, count);
+    fn drawn(rng: &mut Rng, style: Style, length: usize) -> Schedule {
+        let (sizes, events) = generate(rng, style, length);
         let numbers = events
             .iter()
             .flat_map(|event| [event.code, event.a, event.b]);
@@ -114,16 +113,30 @@ impl Progress {
     }
 }
 
-fn schedules<M: Machine>(rng: &mut Rng, style: Style, count: u64) -> Outcome {
+/// So many schedules of the style.
+pub fn schedules<M: Machine>(rng: &mut Rng, style: Style, count: u64) -> Outcome {
     let mut comparisons = Comparisons::new();
     let mut progress = Progress::default();
     for _ in 0..count {
-        let schedule = Schedule::drawn(rng, style);
+        let length = rng.within(SHORTEST, LONGEST) as usize;
+        let schedule = Schedule::drawn(rng, style, length);
         let log = compare_steps::<M>(&mut comparisons, rng, &schedule, &mut progress)?;
         compare_whole::<M>(&mut comparisons, rng, &schedule, &log)?;
     }
     progress.test(count)?;
     comparisons.made()
+}
+
+/// One schedule of the style and the length.
+pub fn schedule<M: Machine>(
+    comparisons: &mut Comparisons,
+    rng: &mut Rng,
+    style: Style,
+    length: usize,
+) -> Result<(), String> {
+    let schedule = Schedule::drawn(rng, style, length);
+    let log = compare_steps::<M>(comparisons, rng, &schedule, &mut Progress::default())?;
+    compare_whole::<M>(comparisons, rng, &schedule, &log)
 }
 
 /// Lent places of any values, made fresh.

@@ -85,15 +85,22 @@ fn random_set(rng: &mut Rng, scans: usize) -> u64 {
 pub fn questions(rng: &mut Rng) -> Outcome {
     let mut comparisons = Comparisons::new();
     for _ in 0..ASKED_TABLES {
-        let table = random_table(rng);
-        let file = table.file();
-        for _ in 0..QUESTIONS {
-            let question = random_question(rng, &table);
-            compare(&mut comparisons, &table.fields, question)?;
-            compare_written(&mut comparisons, &file, question)?;
-        }
+        table_questions(&mut comparisons, rng)?;
     }
     comparisons.made()
+}
+
+/// A good table, asked a few questions on records and on the written form.
+/// Gives how many questions the proved functions were asked.
+pub fn table_questions(comparisons: &mut Comparisons, rng: &mut Rng) -> Result<u64, String> {
+    let table = random_table(rng);
+    let file = table.file();
+    for _ in 0..QUESTIONS {
+        let question = random_question(rng, &table);
+        compare(comparisons, &table.fields, question)?;
+        compare_written(comparisons, &file, question)?;
+    }
+    Ok(2 * QUESTIONS as u64)
 }
 
 /// Tables in which one field is any number, on records and on the written form.

@@ -16,8 +16,13 @@ const DRAWN_EVENTS: u64 = 4;
 
 /// A few events on each of the drawn records.
 pub fn drawn_records<M: Machine>(rng: &mut Rng) -> Outcome {
+    records::<M>(rng, DRAWN)
+}
+
+/// A few events on each of so many drawn records.
+pub fn records<M: Machine>(rng: &mut Rng, count: u64) -> Outcome {
     let mut comparisons = Comparisons::new();
-    for _ in 0..DRAWN {
+    for _ in 0..count {
         let sizes = drawn_sizes(rng);
         let mut lent = Within::new(rng, &sizes).lent(rng);
         for _ in 0..DRAWN_EVENTS {

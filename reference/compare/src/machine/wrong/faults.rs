@@ -1,151 +1,59 @@
-//! Machines that do an event truly and then spoil what it leaves.
-
-use std::marker::PhantomData;
+//! Faults of any kind: one thing of an event done wrongly.
 
 use reference::machine::{
     ACKNOWLEDGEMENT, ACKNOWLEDGEMENT_TO_LEARNER, CRASH, DECIDE, DELIVER, DUPLICATE, FREE, INTERNAL,
     PROPOSAL, PROPOSE, PROPOSER, RECEIVE, REFINE, REJECTION,
 };
 
-use super::is_noticed;
-use crate::machine::form::{Flag, Message, Sizes};
-use crate::machine::lent::Lent;
-use crate::machine::second::Second;
-use crate::machine::{Machine, Suites, EVENT, LOG};
-
-/// An event, and the records before it.
-struct Done<'a> {
-    before: &'a Lent,
-    code: u64,
-    a: usize,
-    b: usize,
-}
-
-impl Done<'_> {
-    /// The message of a Deliver that was not refused, if it is of the kind.
-    fn delivered(&self, kind: u32) -> Option<Message> {
-        let message = *self.before.slots.lent().get(self.a)?;
-        let is_it = self.code == DELIVER && u32::from(message.kind) == kind;
-        is_it.then_some(message)
-    }
-}
-
-/// What is wrong with a machine.
-trait Fault: 'static {
-    /// Spoils what an event leaves, and what is said of it.
-    fn spoil(done: &Done, lent: &mut Lent, said: &mut [u64]);
-}
-
-/// The second program with a fault.
-struct Spoilt<F>(PhantomData<F>);
-
-impl<F: Fault> Machine for Spoilt<F> {
-    fn fresh(sizes: Sizes, lent: &mut Lent) -> u8 {
-        Second::fresh(sizes, lent)
-    }
-
-    fn run(sizes: Sizes, lent: &mut Lent, events: &[u64], log: &mut [u64], n: u16) -> u8 {
-        let tested = Second::run(sizes, &mut lent.clone(), events, &mut log.to_vec(), n);
-        if tested != 0 {
-            return tested;
-        }
-        let events = events.chunks_exact(EVENT).take(n.into());
-        for (event, said) in events.zip(log.chunks_exact_mut(LOG)) {
-            let before = lent.clone();
-            let answer = Second::run(sizes, lent, event, said, 1);
-            if answer != 0 {
-                return answer;
-            }
-            let done = Done {
-                before: &before,
-                code: event[0],
-                a: event[1].try_into().unwrap_or(usize::MAX),
-                b: event[2].try_into().unwrap_or(usize::MAX),
-            };
-            F::spoil(&done, lent, said);
-        }
-        0
-    }
-}
-
-/// Faults by name, each with the test of whole schedules that notices it.
-macro_rules! faults {
-    ($($(#[$meaning:meta])* $name:ident, $test:literal:
-        |$done:ident, $lent:ident, $said:ident| $body:expr;)*) => {
-        $(
-            $(#[$meaning])*
-            struct $name;
-
-            impl Fault for $name {
-                fn spoil($done: &Done, $lent: &mut Lent, $said: &mut [u64]) {
-                    $body
-                }
-            }
-        )*
-
-        #[test]
-        fn faults_are_noticed_by_runs() {
-            $(
-                assert!(
-                    is_noticed(Suites::<Spoilt<$name>>::RUNS, $test),
-                    stringify!($name)
-                );
-            )*
-        }
-    };
-}
-
-/// Whether the event was ok, learnt and decided among it.
-fn is_ok(said: &[u64]) -> bool {
-    said[0] == 0 || said[0] >= 256
-}
+use super::spoilt::is_ok;
+use crate::machine::form::{Flag, Message};
 
 faults! {
     /// Refuses every event.
-    RefusesAll, "calm": |done, lent, said| {
+    RefusesAll, RUNS, "calm": |done, lent, said| {
         *lent = done.before.clone();
         said.copy_from_slice(&[6, 0]);
     };
     /// Says ok to every event and does nothing.
-    AlwaysOk, "wild": |done, lent, said| {
+    AlwaysOk, RUNS, "wild": |done, lent, said| {
         *lent = done.before.clone();
         said.fill(0);
     };
     /// Answers truly and changes nothing.
-    ChangesNothing, "calm": |done, lent, _said| *lent = done.before.clone();
+    ChangesNothing, RUNS, "calm": |done, lent, _said| *lent = done.before.clone();
     /// Decides proposed and gathered.
-    DecidesGathered, "contention": |_done, lent, said| if let Some(at) = said[0].checked_sub(512) {
+    DecidesGathered, RUNS, "contention": |_done, lent, said| if let Some(at) = said[0].checked_sub(512) {
         let proposer = &mut lent.proposers.lent_mut()[at as usize];
         proposer.decided |= proposer.gathered;
         said[1] = proposer.decided;
     };
     /// Empties a proposer's lists when it decides.
-    EmptiesListsAtDecide, "calm": |_done, lent, said| if let Some(at) = said[0].checked_sub(512) {
+    EmptiesListsAtDecide, RUNS, "calm": |_done, lent, said| if let Some(at) = said[0].checked_sub(512) {
         let proposer = &mut lent.proposers.lent_mut()[at as usize];
         proposer.acknowledged = 0;
         proposer.rejected = 0;
     };
     /// Keeps what was gathered when it refines.
-    KeepsGatheredAtRefine, "contention": |done, lent, said| if done.code == REFINE && is_ok(said) {
+    KeepsGatheredAtRefine, RUNS, "contention": |done, lent, said| if done.code == REFINE && is_ok(said) {
         let gathered = done.before.proposers.lent()[done.a].gathered;
         lent.proposers.lent_mut()[done.a].gathered = gathered;
     };
     /// Empties buffered when it refines.
-    EmptiesBufferedAtRefine, "contention": |done, lent, said| if done.code == REFINE && is_ok(said) {
+    EmptiesBufferedAtRefine, RUNS, "contention": |done, lent, said| if done.code == REFINE && is_ok(said) {
         lent.proposers.lent_mut()[done.a].buffered = 0;
     };
     /// Proposes what is buffered alone.
-    ForgetsProposed, "calm": |done, lent, said| if done.code == PROPOSE && is_ok(said) {
+    ForgetsProposed, RUNS, "calm": |done, lent, said| if done.code == PROPOSE && is_ok(said) {
         let buffered = done.before.proposers.lent()[done.a].buffered;
         lent.proposers.lent_mut()[done.a].proposed = buffered;
     };
     /// Keeps the acceptors of the proposal before.
-    KeepsListsAtPropose, "calm": |done, lent, said| if done.code == PROPOSE && is_ok(said) {
+    KeepsListsAtPropose, RUNS, "calm": |done, lent, said| if done.code == PROPOSE && is_ok(said) {
         let acknowledged = done.before.proposers.lent()[done.a].acknowledged;
         lent.proposers.lent_mut()[done.a].acknowledged = acknowledged;
     };
     /// Counts an acknowledgement of another number.
-    CountsLateAcknowledgements, "lossy": |done, lent, said| if is_ok(said) {
+    CountsLateAcknowledgements, RUNS, "lossy": |done, lent, said| if is_ok(said) {
         if let Some(message) = done.delivered(ACKNOWLEDGEMENT) {
             let proposer = &mut lent.proposers.lent_mut()[usize::from(message.addressee)];
             if proposer.active.is_set() {
@@ -154,7 +62,7 @@ faults! {
         }
     };
     /// Counts a rejection for a passive proposer.
-    CountsRejectionsWhilePassive, "contention": |done, lent, said| if is_ok(said) {
+    CountsRejectionsWhilePassive, RUNS, "contention": |done, lent, said| if is_ok(said) {
         if let Some(message) = done.delivered(REJECTION) {
             let proposer = &mut lent.proposers.lent_mut()[usize::from(message.addressee)];
             if proposer.number == message.number {
@@ -163,7 +71,7 @@ faults! {
         }
     };
     /// Proposes at once what a rejection brings.
-    RefinesAtRejection, "contention": |done, lent, said| if is_ok(said) {
+    RefinesAtRejection, RUNS, "contention": |done, lent, said| if is_ok(said) {
         if let Some(message) = done.delivered(REJECTION) {
             let proposer = &mut lent.proposers.lent_mut()[usize::from(message.addressee)];
             if proposer.active.is_set() && proposer.number == message.number {
@@ -172,7 +80,7 @@ faults! {
         }
     };
     /// An acceptor that rejects keeps its set.
-    RejectionGrowsNothing, "lossy": |done, lent, said| if is_ok(said) {
+    RejectionGrowsNothing, RUNS, "lossy": |done, lent, said| if is_ok(said) {
         if let Some(message) = done.delivered(PROPOSAL) {
             let at = usize::from(message.addressee);
             let accepted = done.before.acceptors.lent()[at].accepted;
@@ -182,7 +90,7 @@ faults! {
         }
     };
     /// A learner adds up acknowledgements of different numbers.
-    AddsUpNumbers, "edges": |done, lent, said| if is_ok(said) {
+    AddsUpNumbers, RUNS, "edges": |done, lent, said| if is_ok(said) {
         if let Some(message) = done.delivered(ACKNOWLEDGEMENT_TO_LEARNER) {
             let (at, of) = (usize::from(message.addressee), usize::from(message.proposer));
             let before = done.before.learners.lent()[at].heard[of].acceptors;
@@ -190,14 +98,14 @@ faults! {
         }
     };
     /// A learner takes up a lower number.
-    HearsLowerNumbers, "lossy": |done, lent, said| if is_ok(said) {
+    HearsLowerNumbers, RUNS, "lossy": |done, lent, said| if is_ok(said) {
         if let Some(message) = done.delivered(ACKNOWLEDGEMENT_TO_LEARNER) {
             let (at, of) = (usize::from(message.addressee), usize::from(message.proposer));
             lent.learners.lent_mut()[at].heard[of].number = message.number;
         }
     };
     /// Says learnt again where the set is the learnt one.
-    LearnsAgain, "lossy": |done, lent, said| if is_ok(said) {
+    LearnsAgain, RUNS, "lossy": |done, lent, said| if is_ok(said) {
         if let Some(message) = done.delivered(ACKNOWLEDGEMENT_TO_LEARNER) {
             let learner = &lent.learners.lent()[usize::from(message.addressee)];
             let heard = learner.heard[usize::from(message.proposer)];
@@ -207,7 +115,7 @@ faults! {
         }
     };
     /// A copy goes to the highest free slot.
-    CopiesToTheHighest, "lossy": |done, lent, said| if done.code == DUPLICATE && is_ok(said) {
+    CopiesToTheHighest, RUNS, "lossy": |done, lent, said| if done.code == DUPLICATE && is_ok(said) {
         let slots = lent.slots.lent_mut();
         let before = done.before.slots.lent();
         let copy = (0..slots.len()).find(|slot| slots[*slot] != before[*slot]);
@@ -217,7 +125,7 @@ faults! {
         }
     };
     /// The slot of a delivered proposal is not there for the answers to it.
-    FreesTheSlotLast, "edges": |done, lent, said| if is_ok(said) && done.delivered(PROPOSAL).is_some() {
+    FreesTheSlotLast, RUNS, "edges": |done, lent, said| if is_ok(said) && done.delivered(PROPOSAL).is_some() {
         let slots = lent.slots.lent_mut();
         let free = (0..slots.len()).find(|slot| u32::from(slots[*slot].kind) == FREE);
         if let Some(free) = free {
@@ -225,7 +133,7 @@ faults! {
         }
     };
     /// Learners are sent to before the proposer.
-    SendsToLearnersFirst, "calm": |done, lent, said| if is_ok(said) && done.delivered(PROPOSAL).is_some() {
+    SendsToLearnersFirst, RUNS, "calm": |done, lent, said| if is_ok(said) && done.delivered(PROPOSAL).is_some() {
         let slots = lent.slots.lent_mut();
         let before = done.before.slots.lent();
         let sent: Vec<usize> = (0..slots.len()).filter(|at| slots[*at] != before[*at]).collect();
@@ -234,32 +142,32 @@ faults! {
         }
     };
     /// Tells a scan to no proposer that has crashed.
-    SkipsCrashedProposers, "crashes": |done, lent, said| if done.code == RECEIVE && is_ok(said) {
+    SkipsCrashedProposers, RUNS, "crashes": |done, lent, said| if done.code == RECEIVE && is_ok(said) {
         let before = done.before.slots.lent();
         for (slot, was) in lent.slots.lent_mut().iter_mut().zip(before) {
             let is_sent = *slot != *was && u32::from(slot.kind) == INTERNAL;
-            let addressee = &done.before.proposers.lent()[usize::from(slot.addressee)];
-            if is_sent && !addressee.alive.is_set() {
+            let proposers = done.before.proposers.lent();
+            if is_sent && !proposers[usize::from(slot.addressee)].alive.is_set() {
                 *slot = Message::FREE;
             }
         }
     };
     /// Uses up a message to a party that has crashed.
-    UsesUpRefusedMessages, "crashes": |done, lent, said| if done.code == DELIVER && said[0] == 5 {
+    UsesUpRefusedMessages, RUNS, "crashes": |done, lent, said| if done.code == DELIVER && said[0] == 5 {
         lent.slots.lent_mut()[done.a] = Message::FREE;
     };
     /// A crash makes a proposer passive.
-    CrashMakesPassive, "crashes": |done, lent, said| {
+    CrashMakesPassive, RUNS, "crashes": |done, lent, said| {
         if done.code == CRASH && done.a as u64 == PROPOSER && is_ok(said) {
             lent.proposers.lent_mut()[done.b].active = Flag::CLEAR;
         }
     };
     /// Buffers a scan although there is no room to tell it.
-    BuffersWithoutRoom, "full": |done, lent, said| if done.code == RECEIVE && said[0] == 8 {
+    BuffersWithoutRoom, RUNS, "full": |done, lent, said| if done.code == RECEIVE && said[0] == 8 {
         lent.proposers.lent_mut()[done.a].buffered |= 1 << done.b;
     };
     /// Refuses 6 where a proposer decides and could refine.
-    PrefersRefine, "contention": |done, lent, said| {
+    PrefersRefine, RUNS, "contention": |done, lent, said| {
         let is_decided = done.code == DECIDE && is_ok(said);
         if is_decided && done.before.proposers.lent()[done.a].rejected != 0 {
             *lent = done.before.clone();
@@ -267,7 +175,7 @@ faults! {
         }
     };
     /// Leaves the number of a message that is learnt from in its slot.
-    LeavesNumberInFreeSlot, "full": |done, lent, said| if done.code == DELIVER && said[0] >= 256 {
+    LeavesNumberInFreeSlot, RUNS, "full": |done, lent, said| if done.code == DELIVER && said[0] >= 256 {
         lent.slots.lent_mut()[done.a].number = 1;
     };
 }

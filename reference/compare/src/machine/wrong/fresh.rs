@@ -1,43 +1,26 @@
 //! Machines that make a run fresh wrongly.
 
-use super::is_noticed;
-use crate::machine::form::{Flag, Message, Sizes};
-use crate::machine::lent::Lent;
+use super::{Calls, Wrong, FRESH};
+use crate::machine::form::{Flag, Message};
 use crate::machine::second::Second;
-use crate::machine::{Machine, Suites};
+use crate::machine::Machine;
 
 /// Machines that are the second program but in making a run fresh, each with
 /// the test that notices it.
 macro_rules! wrong_fresh {
-    ($($(#[$meaning:meta])* $name:ident, $test:literal:
+    ($($(#[doc = $meaning:literal])* $name:ident, $test:literal:
         |$sizes:ident, $lent:ident| $body:expr;)*) => {
-        $(
-            $(#[$meaning])*
-            struct $name;
-
-            impl Machine for $name {
-                fn fresh($sizes: Sizes, $lent: &mut Lent) -> u8 {
-                    $body
-                }
-
-                fn run(
-                    sizes: Sizes,
-                    lent: &mut Lent,
-                    events: &[u64],
-                    log: &mut [u64],
-                    n: u16,
-                ) -> u8 {
-                    Second::run(sizes, lent, events, log, n)
-                }
-            }
-        )*
-
-        #[test]
-        fn wrong_fresh_runs_are_noticed() {
-            $(
-                assert!(is_noticed(Suites::<$name>::FRESH, $test), stringify!($name));
-            )*
-        }
+        pub const LIST: &[Wrong] = &[$(
+            Wrong {
+                name: stringify!($name),
+                meaning: concat!($($meaning),*),
+                calls: Calls {
+                    fresh: |$sizes, $lent| $body,
+                    ..Calls::TRUE
+                },
+                noticed_by: (FRESH, $test),
+            },
+        )*];
     };
 }
 
@@ -93,5 +76,55 @@ wrong_fresh! {
             last.alive = Flag::CLEAR;
         }
         answer
+    };
+    /// Leaves what an acceptor had accepted.
+    LeavesAccepted, "fresh_runs": |sizes, lent| {
+        let before = lent.clone();
+        let answer = Second::fresh(sizes, lent);
+        let acceptors = lent.acceptors.lent_mut().iter_mut();
+        for (acceptor, was) in acceptors.zip(before.acceptors.lent()) {
+            acceptor.accepted = was.accepted;
+        }
+        answer
+    };
+    /// Leaves what a proposer had buffered.
+    LeavesBuffered, "fresh_runs": |sizes, lent| {
+        let before = lent.clone();
+        let answer = Second::fresh(sizes, lent);
+        let proposers = lent.proposers.lent_mut().iter_mut();
+        for (proposer, was) in proposers.zip(before.proposers.lent()) {
+            proposer.buffered = was.buffered;
+        }
+        answer
+    };
+    /// Makes proposers active.
+    MakesProposersActive, "fresh_runs": |sizes, lent| {
+        let answer = Second::fresh(sizes, lent);
+        if answer == 0 {
+            for proposer in lent.proposers.lent_mut() {
+                proposer.active = Flag::SET;
+            }
+        }
+        answer
+    };
+    /// Begins to count proposals at 1.
+    BeginsAtNumberOne, "fresh_runs": |sizes, lent| {
+        let answer = Second::fresh(sizes, lent);
+        if answer == 0 {
+            for proposer in lent.proposers.lent_mut() {
+                proposer.number = 1;
+            }
+        }
+        answer
+    };
+    /// Takes 65 scans.
+    TakesMoreScans, "sizes": |sizes, lent| match Second::fresh(sizes, lent) {
+        1 if sizes.scans == 65 => 0,
+        answer => answer,
+    };
+    /// Takes no proposer.
+    TakesNoProposer, "sizes": |sizes, lent| match Second::fresh(sizes, lent) {
+        1 if sizes.proposers == 0 => 0,
+        answer => answer,
     };
 }

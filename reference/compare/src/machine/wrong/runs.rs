@@ -2,49 +2,10 @@
 
 use reference::machine::PROPOSAL;
 
-use super::is_noticed;
 use crate::machine::form::{Flag, Message, Sizes};
 use crate::machine::lent::Lent;
 use crate::machine::second::Second;
-use crate::machine::{Machine, Suites, EVENT, LOG};
-
-/// Machines that are the second program but in doing events, each with the
-/// suite and the test that notices it.
-macro_rules! wrong_run {
-    ($($(#[$meaning:meta])* $name:ident, $suite:ident, $test:literal:
-        |$sizes:ident, $lent:ident, $events:ident, $log:ident, $n:ident| $body:expr;)*) => {
-        $(
-            $(#[$meaning])*
-            struct $name;
-
-            impl Machine for $name {
-                fn fresh(sizes: Sizes, lent: &mut Lent) -> u8 {
-                    Second::fresh(sizes, lent)
-                }
-
-                fn run(
-                    $sizes: Sizes,
-                    $lent: &mut Lent,
-                    $events: &[u64],
-                    $log: &mut [u64],
-                    $n: u16,
-                ) -> u8 {
-                    $body
-                }
-            }
-        )*
-
-        #[test]
-        fn wrong_runs_are_noticed() {
-            $(
-                assert!(
-                    is_noticed(Suites::<$name>::$suite, $test),
-                    stringify!($name)
-                );
-            )*
-        }
-    };
-}
+use crate::machine::{Machine, EVENT, LOG};
 
 /// The events with each number cut to so many bits.
 fn cut(events: &[u64], bits: u32) -> Vec<u64> {
@@ -53,7 +14,7 @@ fn cut(events: &[u64], bits: u32) -> Vec<u64> {
 }
 
 /// Answers 0 where the lent records are refused and those in `mended` are not.
-fn unless_mended(
+pub fn unless_mended(
     sizes: Sizes,
     lent: &mut Lent,
     mended: &Lent,
@@ -212,6 +173,18 @@ wrong_run! {
         {
             *lent = before;
             log[0] = 7;
+        }
+        answer
+    };
+    /// Leaves the answers in the log last event first.
+    LogsBackwards, RUNS, "calm": |sizes, lent, events, log, n| {
+        let answer = Second::run(sizes, lent, events, log, n);
+        if answer == 0 {
+            let mut answers: Vec<u64> = Vec::new();
+            for said in log[..LOG * usize::from(n)].chunks_exact(LOG).rev() {
+                answers.extend(said);
+            }
+            log[..answers.len()].copy_from_slice(&answers);
         }
         answer
     };

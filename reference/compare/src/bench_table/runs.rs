@@ -127,7 +127,7 @@ fn sum_of(log: &[u64]) -> u64 {
 }
 
 /// A run by the proved functions.
-struct ProvedRun {
+pub struct ProvedRun {
     sizes: form::Sizes,
     proposers: Vec<Proposer>,
     acceptors: Vec<Acceptor>,
@@ -138,7 +138,7 @@ struct ProvedRun {
 }
 
 impl ProvedRun {
-    fn new(sizes: &Sizes, events: &[Event]) -> ProvedRun {
+    pub fn new(sizes: &Sizes, events: &[Event]) -> ProvedRun {
         let numbers = events
             .iter()
             .flat_map(|event| [event.code, event.a, event.b]);
@@ -177,7 +177,7 @@ impl ProvedRun {
         )
     }
 
-    fn run_at_once(&mut self) -> u64 {
+    pub fn run_at_once(&mut self) -> u64 {
         let count = self.events.len() / EVENT;
         match (self.fresh(), self.run(0, count)) {
             (0, 0) => sum_of(&self.log),
@@ -185,7 +185,7 @@ impl ProvedRun {
         }
     }
 
-    fn run_by_steps(&mut self) -> u64 {
+    pub fn run_by_steps(&mut self) -> u64 {
         let mut refused = self.fresh();
         for place in 0..self.events.len() / EVENT {
             refused |= self.run(place, 1);
@@ -198,7 +198,7 @@ impl ProvedRun {
 }
 
 /// A run by the second program.
-struct SecondRun<'a> {
+pub struct SecondRun<'a> {
     sizes: Sizes,
     slots: Vec<machine::Message>,
     events: &'a [Event],
@@ -206,7 +206,7 @@ struct SecondRun<'a> {
 }
 
 impl SecondRun<'_> {
-    fn new<'a>(sizes: &Sizes, events: &'a [Event]) -> SecondRun<'a> {
+    pub fn new<'a>(sizes: &Sizes, events: &'a [Event]) -> SecondRun<'a> {
         SecondRun {
             sizes: *sizes,
             slots: vec![machine::Message::FREE; sizes.m as usize],
@@ -220,7 +220,7 @@ impl SecondRun<'_> {
     }
 
     #[inline(never)]
-    fn run_at_once(&mut self) -> u64 {
+    pub fn run_at_once(&mut self) -> u64 {
         let mut records = self.fresh();
         if machine::test_records(&records, &self.slots).is_err() {
             return REFUSED;
@@ -232,7 +232,7 @@ impl SecondRun<'_> {
         sum_of(&self.log)
     }
 
-    fn run_by_steps(&mut self) -> u64 {
+    pub fn run_by_steps(&mut self) -> u64 {
         let mut records = self.fresh();
         for (event, log) in self.events.iter().zip(self.log.chunks_exact_mut(LOG)) {
             let result = machine::step(&mut records, &mut self.slots, event);

@@ -1,6 +1,8 @@
 //! Reading: the answer, the header and every place of the room. On a refusal
 //! header and room keep what they held.
 
+use std::fmt::{self, Display, Formatter};
+
 use reference::refusal::{Refusal, BAD_NUMBER, BYTES_FOLLOW, INPUT_ENDS, NO_ROOM};
 use reference::rng::Rng;
 
@@ -44,6 +46,34 @@ fn read<F: Form>(reader: Reader<F>, bytes: &[u8], room: &Lent<u64>) -> Reading<F
     Left { answer, cell, lent }
 }
 
+/// What is read, and into how much room.
+struct Asked<'a> {
+    form: &'static str,
+    room: usize,
+    bytes: &'a [u8],
+}
+
+impl Asked<'_> {
+    fn of<'a, F: Form>(bytes: &'a [u8], room: &Lent<u64>) -> Asked<'a> {
+        Asked {
+            form: F::NAME,
+            room: room.length(),
+            bytes,
+        }
+    }
+}
+
+impl Display for Asked<'_> {
+    fn fmt(&self, f: &mut Formatter) -> fmt::Result {
+        let Asked { form, room, bytes } = self;
+        write!(
+            f,
+            "reading a {form}, room of {room} numbers, from {}",
+            Bytes(bytes)
+        )
+    }
+}
+
 /// Compares what both programs read.
 pub fn compare<F: Form>(
     comparisons: &mut Comparisons,
@@ -52,12 +82,7 @@ pub fn compare<F: Form>(
 ) -> Result<(), String> {
     left::same(
         comparisons,
-        format_args!(
-            "reading a {}, room of {} numbers, from {}",
-            F::NAME,
-            room.length(),
-            Bytes(bytes)
-        ),
+        format_args!("{}", Asked::of::<F>(bytes, room)),
         &read::<F>(F::read_proved, bytes, room),
         &read::<F>(F::read_second, bytes, room),
     )
@@ -72,12 +97,7 @@ fn compare_stated<F: Form>(
 ) -> Result<(), String> {
     left::stated(
         comparisons,
-        format_args!(
-            "reading a {}, room of {} numbers, from {}",
-            F::NAME,
-            room.length(),
-            Bytes(bytes)
-        ),
+        format_args!("{}", Asked::of::<F>(bytes, room)),
         &read::<F>(F::read_proved, bytes, room),
         &read::<F>(F::read_second, bytes, room),
         stated,

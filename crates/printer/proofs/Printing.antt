@@ -1,7 +1,7 @@
 -- A schedule that is read, run and printed: what is printed is the text of its bytes.
 use mathlib.Core.Path.{_≡_, refl, sym, ap, _∙_}
 use mathlib.Core.Bool.{Bool, true, false}
-use mathlib.Core.List.{List, [], _∷_, _++_, map}
+use mathlib.Core.List.{List, _++_, map}
 use Prim.Native.Nat.{ℕ, zero, suc, _+_, _*_, _≤_}
 use native.Mathlib.Omega.{arith}
 use lib.Dec.{ltb}
@@ -48,9 +48,10 @@ named-small z h (Learnt l v) (namesLearner i) = omega (arith, bounds z h .few-le
 named-small z h (Decided p v) (namesProposer i) = omega (arith, bounds z h .few-proposers)
 named-small z h (Refused n) (namesRefusal l m) = (l, omega arith)
 
-all-small : (z : Sizes) → sizesInRange z ≡ true → (ws : List Answer) → All (Named z) ws → All Small ws
-all-small z h [] none = none
-all-small z h (w ∷ ws) (also x xs) = also (named-small z h w x) (all-small z h ws xs)
+-- what holds of each answer that names what exists
+all-answers : {z : Sizes} (Q : Answer → Type 0) → ((w : Answer) → Named z w → Q w) → {ws : List Answer} → All (Named z) ws → All Q ws
+all-answers Q f none = none
+all-answers Q f (also {x = w} x xs) = also (f w x) (all-answers Q f xs)
 
 module _ (z : Sizes) (ns log : List ℕ) (n : ℕ) (h : sizesInRange z ≡ true) (numbers : 3 * n ≤ length ns) (room : 2 * n ≤ length log) where
   there : hasNumbers ns n log ≡ true
@@ -63,7 +64,7 @@ module _ (z : Sizes) (ns log : List ℕ) (n : ℕ) (h : sizesInRange z ≡ true)
   run-log =
       let ws = answers z (fresh z) (eventsIn ns n) in
       rw (h, there)
-      (ap (answersIn (logged ws log)) (sym many) ∙ read-back ws (drop (2 * length ws) log) (all-small z h ws (all-named z (fresh z) (eventsIn ns n))))
+      (ap (answersIn (logged ws log)) (sym many) ∙ read-back ws (drop (2 * length ws) log) (all-answers Small (named-small z h) (all-named z (fresh z) (eventsIn ns n))))
 
   pub run-printed : (buffer log′ : List ℕ) (r : Written) (left : List ℕ) → log′ ≡ logAfterWholeRun z ns n log
       → (r ≡ putAnswer (runText (answersIn log′ n)) buffer) × (left ≡ afterPut (runText (answersIn log′ n)) buffer)
@@ -131,17 +132,13 @@ named-short z h (Learnt l v) (namesLearner i) = omega (arith, bounds z h .few-le
 named-short z h (Decided p v) (namesProposer i) = omega (arith, bounds z h .few-proposers)
 named-short z h (Refused n) (namesRefusal l m) = omega arith
 
-all-short : (z : Sizes) → sizesInRange z ≡ true → {ws : List Answer} → All (Named z) ws → All Short ws
-all-short z h none = none
-all-short z h (also {x = w} x xs) = also (named-short z h w x) (all-short z h xs)
-
 text-by : (bytes : List ℕ) (o : Outcome) → readSchedule bytes ≡ o → length (textOfRead o) ≤ longestText
 unfolding textOfRead
 text-by bytes (got vs next) e =
     let w = schedule-whole bytes e .right in
     let z = headerOf vs .sizes in
     let es = eventsIn (drop 6 vs) (headerOf vs .events) in
-    longest (answers z (fresh z) es) (omega (arith, length-answers z (fresh z) es, length-from (eventOf (drop 6 vs)) 0 (headerOf vs .events), w .count)) (all-short z (w .sizes) (all-named z (fresh z) es))
+    longest (answers z (fresh z) es) (omega (arith, length-answers z (fresh z) es, length-from (eventOf (drop 6 vs)) 0 (headerOf vs .events), w .count)) (all-answers Short (named-short z (w .sizes)) (all-named z (fresh z) es))
 text-by bytes (refused r) e = omega (arith, refusal-length (r .no), decimal-most 20 (r .no))
 
 -- whatever the bytes are

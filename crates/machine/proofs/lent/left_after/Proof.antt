@@ -2,23 +2,16 @@ use mathlib.Core.Path.{sym, _∙_}
 use borrow.Author.Needs.{needs}
 use Rattle.machine.proofs.lent.left_after.Statement.{statement}
 use Rattle.machine.proofs.lent.left_after.Tie as tie
-use Rattle.machine.proofs.lent.left_after.Reads as reads
-use Rattle.machine.proofs.lent.left_after.Lts as lts
-use Rattle.model.proofs.Message.is_free.Reads as is-free-reads
 
--- src/lent.rt:80:8
 is-free-requires : tie.Need-is-free-requires
 is-free-requires c κs = search needs
 
--- src/lent.rt:81:16
 sub-result : tie.Need-sub-result
 sub-result c = search needs
 
--- src/lent.rt:81:9
 returns : tie.Need-returns
 returns c = simp (sym (c .before .is-free .ensures) ∙ c .if1 .taken)
 
--- src/lent.rt:76:1
 returns-2 : tie.Need-returns-2
 returns-2 c = simp (sym (c .before .is-free .ensures) ∙ c .if1 .left)
 

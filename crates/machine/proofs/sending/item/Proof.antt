@@ -7,10 +7,6 @@ use Rattle.decisions.specs.Sending.{itemOf}
 use borrow.Author.Needs.{needs}
 use Rattle.machine.proofs.sending.item.Statement.{statement}
 use Rattle.machine.proofs.sending.item.Tie as tie
-use Rattle.machine.proofs.sending.item.Reads as reads
-use Rattle.machine.proofs.sending.item.Lts as lts
-use Rattle.machine.proofs.sending.acknowledgement_of.Reads as acknowledgement-of-reads
-use Rattle.machine.proofs.sending.addressed_to.Reads as addressed-to-reads
 
 -- any other shape is the message itself
 itself : {A : Type 0} (m x y z : A) (n : ℕ) → (n ≡ 1 → ⊥) → (n ≡ 2 → ⊥) → (n ≡ 3 → ⊥) → m ≡ getD (m ∷ x ∷ y ∷ z ∷ []) n m
@@ -20,60 +16,47 @@ itself m x y z (suc (suc zero)) one two three = absurd (two refl)
 itself m x y z (suc (suc (suc zero))) one two three = absurd (three refl)
 itself m x y z (suc (suc (suc (suc n)))) one two three = refl
 
--- src/sending.rt:74:14
 addressed-to-requires : tie.Need-addressed-to-requires
 addressed-to-requires c κs = search needs
 
--- src/sending.rt:77:17
 addressed-to-requires-2 : tie.Need-addressed-to-requires-2
 addressed-to-requires-2 c κs = search needs
 
--- src/sending.rt:79:39
 add-addressed-to : tie.Need-add-addressed-to
 add-addressed-to c = search needs
 
--- src/sending.rt:79:17
 addressed-to-requires-3 : tie.Need-addressed-to-requires-3
 addressed-to-requires-3 c κs = search needs
 
--- src/sending.rt:84:17
 acknowledgement-of-requires : tie.Need-acknowledgement-of-requires
 acknowledgement-of-requires c κs = search needs
 
--- src/sending.rt:86:39
 sub-addressed-to : tie.Need-sub-addressed-to
 sub-addressed-to c = search needs
 
--- src/sending.rt:86:17
 addressed-to-requires-4 : tie.Need-addressed-to-requires-4
 addressed-to-requires-4 c κs = search needs
 
--- src/sending.rt:67:1
 returns : tie.Need-returns
 unfolding itemOf
 returns c = simp (c .before .match .keys1) (c .addressed-to .ensures)
 
--- src/sending.rt:67:1
 returns-2 : tie.Need-returns-2
 unfolding itemOf
 returns-2 c = simp (c .before .before .before .match .keys2, lt-ltb _ _ (c .before .if1 .taken)) (c .addressed-to2 .ensures)
 
--- src/sending.rt:67:1
 returns-3 : tie.Need-returns-3
 unfolding itemOf
 returns-3 c = simp (c .before .before .before .match .keys2, le-ltb _ _ (c .before .if1 .left)) (c .addressed-to3 .ensures)
 
--- src/sending.rt:67:1
 returns-4 : tie.Need-returns-4
 unfolding itemOf
 returns-4 c = simp (c .before .before .match .keys3, eq-eqb _ _ (c .before .if2 .taken)) (c .acknowledgement-of .ensures)
 
--- src/sending.rt:67:1
 returns-5 : tie.Need-returns-5
 unfolding itemOf
 returns-5 c = simp (c .before .before .match .keys3, ne-eqb _ _ (c .before .if2 .left)) (c .addressed-to4 .ensures)
 
--- src/sending.rt:67:1
 returns-6 : tie.Need-returns-6
 unfolding itemOf
 returns-6 c = itself _ _ _ _ _ (c .match .rest .0 .0 .1) (c .match .rest .0 .1) (c .match .rest .1)

@@ -3,25 +3,18 @@ use Rattle.machine.specs.Stepping.{finishOf}
 use borrow.Author.Needs.{needs}
 use Rattle.machine.proofs.step.finish.Statement.{statement}
 use Rattle.machine.proofs.step.finish.Tie as tie
-use Rattle.machine.proofs.step.finish.Reads as reads
-use Rattle.machine.proofs.step.finish.Lts as lts
-use Rattle.decisions.proofs.decide.unchanged_of.Reads as unchanged-of-reads
 
--- src/step.rt:131:9
 unchanged-of-requires : tie.Need-unchanged-of-requires
 unchanged-of-requires c κs = search needs
 
--- src/step.rt:134:13
 returns : tie.Need-returns
 unfolding finishOf
 returns c = simp (eq-eqb _ _ (c .before .if1 .taken), eq-eqb _ _ (c .if2 .taken))
 
--- src/step.rt:136:9
 returns-2 : tie.Need-returns-2
 unfolding finishOf
 returns-2 c = simp (eq-eqb _ _ (c .before .if1 .taken), ne-eqb _ _ (c .if2 .left), c .before .before .before .unchanged-of .ensures)
 
--- src/step.rt:128:1
 returns-3 : tie.Need-returns-3
 unfolding finishOf
 returns-3 c = simp (ne-eqb _ _ (c .if1 .left), c .before .before .unchanged-of .ensures)

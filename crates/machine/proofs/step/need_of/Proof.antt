@@ -6,32 +6,25 @@ use Rattle.machine.specs.Stepping.{needOf}
 use borrow.Author.Needs.{needs}
 use Rattle.machine.proofs.step.need_of.Statement.{statement}
 use Rattle.machine.proofs.step.need_of.Tie as tie
-use Rattle.machine.proofs.step.need_of.Reads as reads
-use Rattle.machine.proofs.step.need_of.Lts as lts
 
 none-needed : (n : ℕ) → n ≤ 0 → 0 ≡ n - 1
 none-needed n h = omega arith
 
--- src/step.rt:98:24
 sub-result : tie.Need-sub-result
 sub-result c = search needs
 
--- src/step.rt:98:17
 returns : tie.Need-returns
 unfolding needOf
 returns c = simp (eq-eqb _ _ (c .before .before .if1 .taken), c .before .if2 .taken)
 
--- src/step.rt:100:13
 returns-2 : tie.Need-returns-2
 unfolding needOf
 returns-2 c = simp (eq-eqb _ _ (c .before .before .if1 .taken), c .before .if2 .taken) (none-needed _ (c .if3 .left))
 
--- src/step.rt:102:9
 returns-3 : tie.Need-returns-3
 unfolding needOf
 returns-3 c = simp (eq-eqb _ _ (c .before .if1 .taken), c .if2 .left)
 
--- src/step.rt:92:1
 returns-4 : tie.Need-returns-4
 unfolding needOf
 returns-4 c = simp (ne-eqb _ _ (c .if1 .left))

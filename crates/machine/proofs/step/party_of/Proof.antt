@@ -6,8 +6,6 @@ use Rattle.machine.specs.Stepping.{partyAt, partyOf}
 use borrow.Author.Needs.{needs}
 use Rattle.machine.proofs.step.party_of.Statement.{statement}
 use Rattle.machine.proofs.step.party_of.Tie as tie
-use Rattle.machine.proofs.step.party_of.Reads as reads
-use Rattle.machine.proofs.step.party_of.Lts as lts
 
 other-party : (e : Event) (m : Message) (n : ℕ) → (n ≡ 2 → ⊥) → (n ≡ 8 → ⊥) → e .a ≡ partyOf (record { code = n; a = e .a; b = e .b }) m
 unfolding partyAt
@@ -22,21 +20,17 @@ other-party e m (suc (suc (suc (suc (suc (suc (suc zero))))))) x y = refl
 other-party e m (suc (suc (suc (suc (suc (suc (suc (suc zero)))))))) x y = absurd (y refl)
 other-party e m (suc (suc (suc (suc (suc (suc (suc (suc (suc n))))))))) x y = refl
 
--- src/step.rt:65:14
 cast-result : tie.Need-cast-result
 cast-result c = search needs
 
--- src/step.rt:60:1
 returns : tie.Need-returns
 unfolding partyAt
 returns c = simp (c .before .match .keys1)
 
--- src/step.rt:60:1
 returns-2 : tie.Need-returns-2
 unfolding partyAt
 returns-2 c = simp (c .match .keys2)
 
--- src/step.rt:60:1
 returns-3 : tie.Need-returns-3
 unfolding partyAt
 returns-3 c = other-party (c .before .args .e) (c .before .args .m) (c .before .args .e .code) (c .match .rest .0 .1) (c .match .rest .1)

@@ -3,20 +3,14 @@ use Rattle.machine.specs.Stepping.{replyOf}
 use borrow.Author.Needs.{needs}
 use Rattle.machine.proofs.step.reply.Statement.{statement}
 use Rattle.machine.proofs.step.reply.Tie as tie
-use Rattle.machine.proofs.step.reply.Reads as reads
-use Rattle.machine.proofs.step.reply.Lts as lts
-use Rattle.decisions.proofs.decide.answer.Reads as answer-reads
 
--- src/step.rt:187:9
 answer-requires : tie.Need-answer-requires
 answer-requires c κs = search needs
 
--- src/step.rt:187:9
 returns : tie.Need-returns
 unfolding replyOf
 returns c = simp (eq-eqb _ _ (c .before .before .if1 .taken)) (c .answer .ensures)
 
--- src/step.rt:181:1
 returns-2 : tie.Need-returns-2
 unfolding replyOf
 returns-2 c = simp (ne-eqb _ _ (c .if1 .left))

@@ -2,15 +2,11 @@ use borrow.Author.Tests.{lt-ltb, le-ltb}
 use Rattle.machine.specs.Stepping.{within}
 use Rattle.machine.proofs.step.within_of.Statement.{statement}
 use Rattle.machine.proofs.step.within_of.Tie as tie
-use Rattle.machine.proofs.step.within_of.Reads as reads
-use Rattle.machine.proofs.step.within_of.Lts as lts
 
--- src/step.rt:48:9
 returns : tie.Need-returns
 unfolding within
 returns c = simp (lt-ltb _ _ (c .if1 .taken))
 
--- src/step.rt:44:1
 returns-2 : tie.Need-returns-2
 unfolding within
 returns-2 c = simp (le-ltb _ _ (c .if1 .left))

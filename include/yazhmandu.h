@@ -34,8 +34,8 @@ extern "C" {
 #define YMD_OUTSIDE_RANGE 1
 /* the event code is not 1 to 8 */
 #define YMD_UNKNOWN_CODE 2
-/* an argument is outside the run's sizes, a set is not within S, or a tag, a
-   shelf or a schedule's count of events is above its limit */
+/* an argument is outside the run's sizes, a set is not 8 bytes or not within S,
+   or a tag, a shelf or a schedule's count of events is above its limit */
 #define YMD_OUTSIDE_SIZES 3
 /* the message slot is free */
 #define YMD_SLOT_FREE 4

@@ -46,7 +46,7 @@ use Rattle.machine.specs.Stepping.{Left}
 use Rattle.machine.specs.Running.{timesOf, Repeats}
 use Rattle.machine.specs.Calls.{lent as lent-as, lengthsAre, soundOf, turnsOf}
 ''', '''use Rattle.machine.proofs.StepLaws.{Agrees}
-use Rattle.machine.proofs.StepCalls.{step-sound, step-left}
+use Rattle.machine.proofs.CallTests.{step-sound, step-left}
 ''')))
 test_records(w, 7, 14, 18)
 w.call(('calls', 'sound_no'), [7, 8, 9, 10, 11], 12, 'u8', 'k')
@@ -73,7 +73,7 @@ w = Walk(Function(
     uses=(USES + '''use Rattle.machine.specs.Running.{Ran, driven, Drives}
 use Rattle.machine.specs.Calls.{lent as lent-as, lengthsAre, enoughOf, soundRunOf, turnsOf, afterRun, logAfterRun}
 ''', '''use Rattle.machine.proofs.RunLaws.{Ends}
-use Rattle.machine.proofs.StepCalls.{run-refused, run-sound, run-left}
+use Rattle.machine.proofs.CallTests.{run-refused, run-sound, run-left}
 ''')))
 test_records(w, 9, 17, 21)
 w.length(4, 17)

@@ -157,8 +157,8 @@ w = Loop(Function(
     facts=[],
     uses=('''use Rattle.machine.specs.Stepping.{Left, stepOf, Fits}
 use Rattle.machine.specs.Running.{eventOf, noted, Ran, onward, ranTo, driven, Drives}
-''', '''use Rattle.machine.proofs.Rounds.{at-end, still-fit, event-there, answer-there, ran-none, ran-next}
-use Rattle.machine.proofs.Turns.{tests, Nearer, Nearer-wf, fits-next, falls}
+''', '''use Rattle.machine.proofs.LoopsOverSteps.{at-end, still-fit, event-there, answer-there, ran-none, ran-next}
+use Rattle.machine.proofs.WalkedLoops.{tests, Nearer, Nearer-wf, fits-next, falls}
 ''')), 'Ran', ('ranTo z events r₀', 'ran-none z events r₀'), 9, [
     ('gk', 'Holds (ltb k n) → k < 2 ^ 64', ' on', 'omega (arith, low on, gn .1)'), ('e', 'Event', '', 'eventOf events k'), STEPPED, ('log′', 'List ℕ', '', 'noted (r .log) k (done′ .answer)'),
     ('fitting', 'Holds (ltb k n) → Fits z ps acs ls t × ((3 * n ≤ n₄) × (2 * n ≤ n₅))', ' on', 'drives (omega (arith, low on))'), still(5, 'fitting on .0')])
@@ -195,8 +195,8 @@ w = Loop(Function(
     uses=('''use Rattle.model.specs.declared.Answer.the-variants.{Refused}
 use Rattle.machine.specs.Stepping.{Left, stepOf, Fits}
 use Rattle.machine.specs.Running.{untouched, timesFrom, timesOf, Repeats}
-''', '''use Rattle.machine.proofs.Rounds.{at-end, fits-byte, still-fit, times-none, times-next}
-use Rattle.machine.proofs.Turns.{tests, Nearer, Nearer-wf, falls}
+''', '''use Rattle.machine.proofs.LoopsOverSteps.{at-end, fits-byte, still-fit, times-none, times-next}
+use Rattle.machine.proofs.WalkedLoops.{tests, Nearer, Nearer-wf, falls}
 ''')), 'Left', ('timesFrom z e r₀', 'times-none z e r₀'), 9, [STEPPED, still(4, 'repeats (omega (arith, low on))')], [('is', 'Is An.the-row (r .answer) (valsAn (r .answer))', 'is₀')])
 w.at_first('assigns ! (agg ! (and-then ! (lit ! tt) (and-then ! (lit ! tt) (no-more !)))) (from ! (stop !)) (init ! %d refl (typedAn (Refused 1) is₀)) $' % w.f.place(8), 8, '(valAn (r .answer))')
 w.zero()

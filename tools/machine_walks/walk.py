@@ -478,10 +478,10 @@ use denote.Triple.Table.{entered, cited}
 use denote.Triple.Walked.{says, needs, Stays, stay-none, stay-none-slice, stay-slice, walkOf, goes-none, goes-none-slice, goes-slice, Walks, ends-at, walked, walk-meets}
 use denote.Exit.{yes}'''
 
-LAWS = '''use Rattle.machine.proofs.Again.{Slice, listAt}
-use Rattle.machine.proofs.Called.{calls-value}
-use Rattle.machine.proofs.Calling.{passed, lent, handed, calls}
-use Rattle.machine.proofs.LentCalls.{calls-shared, calls-lent}
+LAWS = '''use Rattle.machine.proofs.Relending.{Slice, listAt}
+use Rattle.machine.proofs.CallsByValue.{calls-value}
+use Rattle.machine.proofs.CallsWithSlices.{passed, lent, handed, calls}
+use Rattle.machine.proofs.CallsLending.{calls-shared, calls-lent}
 use Rattle.machine.proofs.Locals.{copied, copied-typed, lends-own, takes-own}'''
 
 

@@ -11,11 +11,6 @@ pub age-is : (dock scan r : ℕ) → dock < 2 ^ 32 → scan < 2 ^ 32 → r < 2 ^
 unfolding age
 age-is dock scan r hd hs hr e = omega arith
 
--- a scan is at most as old as the ticks can tell
-pub age-small : (dock scan : ℕ) → age dock scan < 2 ^ 32
-unfolding age
-age-small dock scan = omega arith
-
 -- the tick of a handheld that has run for so many milliseconds
 abbrev pub tick : ℕ → ℕ
 tick ran = ran % 2 ^ 32

@@ -12,7 +12,7 @@ use Rattle.sizes.specs.declared.Sizes.{Sizes}
 use Rattle.model.specs.Records.{Kind, free, internal, proposal, acknowledgement, rejection, announcement, noKind, kindOf, Role, aProposer, anAcceptor, aLearner, noRole, roleOf, addressed}
 use Rattle.model.specs.Rules.{accepts, answering}
 use Rattle.model.specs.Table.{Acknowledgement, from}
-use Rattle.model.specs.Tests.{_unless_, _⨾_, refusal, ok}
+use Rattle.choice.specs.Tests.{_unless_, _⨾_, refusal, ok}
 use Rattle.model.specs.Ranges.{all}
 use Rattle.model.specs.Events.{Code, receive, deliver, drop, duplicate, propose, refine, decide, crash, noCode}
 use Rattle.model.specs.declared.Proposer.{Proposer}
@@ -29,10 +29,6 @@ pub record Sendable (m : Message) (d : Change) : Type 0 where
   pub frees-taken : Holds (d .frees) → Holds (isTaken m)
 
 -- ---- each message that is sent takes its slot, where the one that they are made of does
-
-true-of : (t : Bool) → Holds t → t ≡ true
-true-of true h = refl
-true-of false h = absurd h
 
 shape-three : (t : Bool) (x y : Message) → Holds (isTaken x) → Holds (isTaken y) → Holds (isTaken (if t then x else y))
 shape-three true x y h k = h

@@ -7,7 +7,7 @@ use Rattle.model.specs.Records.{Role, aProposer, anAcceptor, aLearner, noRole, 
 use Rattle.model.specs.Rules.{proposeNo, refineNo, decideNo}
 use Rattle.model.specs.Table.{isFree}
 use Rattle.model.specs.Events.{Code, receive, deliver, drop, duplicate, propose, refine, decide, crash, noCode, exists}
-use Rattle.model.specs.Tests.{_unless_, _⨾_, refusal, ok}
+use Rattle.choice.specs.Tests.{_unless_, _⨾_, refusal, ok}
 use Rattle.model.specs.declared.Proposer.{Proposer}
 use Rattle.model.specs.declared.Message.{Message}
 

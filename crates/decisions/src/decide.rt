@@ -4,7 +4,7 @@ ghost use mathlib.Core.Bool.{true};
 ghost use Rattle.sizes.specs.Sizes.{sizesInRange};
 ghost use Rattle.model.specs.Records.{kindOf, roleOf, addressed};
 ghost use Rattle.model.specs.Events.{codeOf};
-ghost use Rattle.model.specs.Tests.{_unless_, _⨾_, refusal, ok};
+ghost use Rattle.choice.specs.Tests.{_unless_, _⨾_, refusal, ok};
 ghost use Rattle.decisions.specs.Change.{unchanged, freed, sends, heardBy, stopping, receivingOf, acceptorSends, answeringOf, acknowledgedBy, rejectedBy, deliveringOf, crashingOf, asProposer, proposalsOf, changeOf, allowedChange, learnerAfter, slotAfter, learnerAnswer, answerOf};
 ghost use Rattle.decisions.specs.Refusals.{aliveIn, slotNo, deliverNo, receiveNo, proposerNo, partyNo, crashNo, testNo};
 use crate::sending::Send;

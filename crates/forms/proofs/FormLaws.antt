@@ -2,26 +2,21 @@
 use mathlib.Core.Path.{_≡_, refl, sym, ap, _∙_}
 use mathlib.Core.Bool.{Bool, true, false}
 use mathlib.Core.List.{List, [], _∷_, _++_, map, append-assoc, append-nil}
-use mathlib.Core.Logic.{_⊎_, inl, inr}
-use Prim.Native.Nat.{ℕ, zero, suc, _+_, _*_, _≤_, _<_}
+use Prim.Native.Nat.{ℕ, zero, suc, _+_, _*_, _≤_}
 use native.Mathlib.Omega.{arith}
 use native.Mathlib.Nat.{mul-suc, add-zero}
 use lib.Dec.{leb, ltb}
-use lib.ListN.{length, take, drop, replicate, length-append}
-use lib.Seq.{sets, length-sets, take-add, drop-drop, take-all}
+use lib.ListN.{length, take, drop, length-append}
+use lib.Seq.{take-add, drop-drop, take-all}
 use borrow.Author.Tests.{ltb-false, leb-true, le-leb}
 use Rattle.choice.specs.Choice.{if_then_else_}
 use Rattle.numbers.specs.Coding.{groupsOf, mostOf, readNumber, form}
 use Rattle.numbers.specs.declared.Limit.{Limit}
-use Rattle.numbers.specs.declared.Refusal.{Refusal}
 use Rattle.numbers.specs.declared.Read.the-variants as read
-use Rattle.numbers.specs.declared.Written.{Written}
-use Rattle.numbers.specs.declared.Written.the-variants as written
 use Rattle.numbers.proofs.CodingLaws.{written-reads, read-form, form-groups, form-bytes}
-use Rattle.forms.specs.Forms.{Outcome, got, refused, refusedWith, Test, testRead, prepend, row, rows, untested, plain, whole, thenNumbers, numbersAt, forms, rowNo, rowsNo, asRead, allWithin, writeAllAnswer, afterWriteAll}
-use Rattle.forms.proofs.Steps.{and-left, and-right}
-use Rattle.forms.proofs.WritesAll.{Answer, answers}
-use Rattle.forms.proofs.Outcomes.{refused-got, row-cons, times, rows-row, times-length, times-map, times-untested, rows-no-row, row-no-cons, cons-row-no, as-read-zero, zero-as-read}
+use Rattle.forms.specs.Forms.{Outcome, got, refused, refusedWith, Test, testRead, prepend, row, rows, whole, thenNumbers, numbersAt, forms, rowNo, rowsNo, asRead, allWithin}
+use Rattle.choice.proofs.Tests.{and-l, and-r}
+use Rattle.forms.proofs.Outcomes.{refused-got, row-cons, times, rows-row, times-length, times-map, rows-no-row, row-no-cons, cons-row-no, as-read-zero, zero-as-read}
 pub use Rattle.numbers.proofs.CodingLaws.{Bytes}
 pub use Rattle.forms.proofs.Outcomes.{Both, then-got, then-then, then-same, Passed, test-got}
 
@@ -58,10 +53,6 @@ unfolding numbersAt thenNumbers
 run-numbers none = refl
 run-numbers (one {v = v} e p r) = rw e (ap {B = List ℕ} (λ l. v ∷ l) (run-numbers r))
 
-run-plain : {tests : List Test} {limit : Limit} {bytes : List ℕ} {at : ℕ} {vs : List ℕ} {next : ℕ} → Run limit bytes tests at vs next → Run limit bytes (replicate (length vs) untested) at vs next
-run-plain none = none
-run-plain (one e p r) = one e refl (run-plain r)
-
 -- a run of rows
 rows-run : (n : ℕ) (tests : List Test) (limit : Limit) (bytes : List ℕ) (at : ℕ) {vs : List ℕ} {next : ℕ} → rows n tests limit bytes at ≡ got vs next → Run limit bytes (times n tests) at vs next
 rows-run n tests limit bytes at e = row-run (times n tests) limit bytes at (sym (rows-row n tests limit bytes at) ∙ e)
@@ -73,18 +64,6 @@ numbers-of-row tests limit bytes at e = run-numbers (row-run tests limit bytes a
 -- the numbers of rows that were read are those that are taken
 pub numbers-of-rows : (n : ℕ) (tests : List Test) (limit : Limit) (bytes : List ℕ) (at : ℕ) {vs : List ℕ} {next : ℕ} → rows n tests limit bytes at ≡ got vs next → numbersAt (length vs) limit bytes at ≡ vs
 numbers-of-rows n tests limit bytes at e = run-numbers (rows-run n tests limit bytes at e)
-
--- a row that was read is read untested too, to the same place
-pub plain-of-row : (tests : List Test) (limit : Limit) (bytes : List ℕ) (at : ℕ) {vs : List ℕ} {next : ℕ} → row tests limit bytes at ≡ got vs next → plain (length vs) limit bytes at ≡ got vs next
-plain-of-row tests limit bytes at e = run-row (run-plain (row-run tests limit bytes at e))
-
--- rows that were read are read untested too, to the same place
-pub plain-of-rows : (n : ℕ) (tests : List Test) (limit : Limit) (bytes : List ℕ) (at : ℕ) {vs : List ℕ} {next : ℕ} → rows n tests limit bytes at ≡ got vs next → plain (length vs) limit bytes at ≡ got vs next
-plain-of-rows n tests limit bytes at e = run-row (run-plain (rows-run n tests limit bytes at e))
-
--- n rows of k untested numbers are n * k untested numbers
-pub rows-plain : (n k : ℕ) (limit : Limit) (bytes : List ℕ) (at : ℕ) → rows n (replicate k untested) limit bytes at ≡ plain (n * k) limit bytes at
-rows-plain n k limit bytes at = rows-row n (replicate k untested) limit bytes at ∙ rw (times-untested n k)
 
 -- ---- what is written reads back
 
@@ -131,8 +110,8 @@ pub forms-length : (limit : Limit) (vs : List ℕ) → allWithin limit vs ≡ tr
 unfolding forms allWithin
 forms-length limit [] h = omega arith
 forms-length limit (v ∷ vs) h =
-    let w = leb-true v (mostOf limit) (and-left (leb v (mostOf limit)) (allWithin limit vs) h) in
-    let r = forms-length limit vs (and-right (leb v (mostOf limit)) (allWithin limit vs) h) in
+    let w = leb-true v (mostOf limit) (and-l (leb v (mostOf limit)) (allWithin limit vs) h) in
+    let r = forms-length limit vs (and-r (leb v (mostOf limit)) (allWithin limit vs) h) in
     rw (mul-suc (groupsOf limit) (length vs), length-append (form v) (forms vs)) (omega (arith, form-groups limit v w))
 
 bytes-append : (s t : List ℕ) → Bytes s → Bytes t → Bytes (s ++ t)
@@ -250,59 +229,3 @@ whole-got s (got ws n) {vs} {next} e = go (ltb n (length s)) refl e
 -- the bytes are the forms that stand from their start to their end
 pub stands-whole : {s vs : List ℕ} {next : ℕ} → Stands s 0 vs next → length s ≤ next → s ≡ forms vs
 stands-whole {s} {vs} x h = sym (take-all (length (forms vs)) s (omega (arith, x .place))) ∙ x .bytes
-
--- ---- what a writer of numbers answers
-
--- writing keeps the length of the buffer
-pub write-all-length : (limit : Limit) (vs d : List ℕ) (at : ℕ) → length (afterWriteAll limit vs d at) ≡ length d
-write-all-length limit vs d at = go (answers limit vs d at)
-  where
-    go : Answer limit vs d at → length (afterWriteAll limit vs d at) ≡ length d
-    go (Answer.large h w) = ap length (sym (w .buffer))
-    go (Answer.narrow h l w) = ap length (sym (w .buffer))
-    go (Answer.fits h l w) = ap length (sym (w .buffer)) ∙ length-sets d at (forms vs)
-
-refused-next : {r : Refusal} {n : ℕ} → written.Refused r ≡ written.Next n → ⊥
-refused-next e = let z : _≡_ {A = ℕ} 0 1 = cc in omega arith
-
-abbrev noOf : Written → ℕ
-noOf (written.Next n) = 0
-noOf (written.Refused r) = r .no
-
--- a writer refuses with 12, where a number is above the limit, or with 8, where all are within it and there is no room
-pub write-all-refusals : (limit : Limit) (vs d : List ℕ) (at : ℕ) (r : Refusal) → writeAllAnswer limit vs d at ≡ written.Refused r
-    → ((r .no ≡ 12) × (allWithin limit vs ≡ false)) ⊎ ((r .no ≡ 8) × (allWithin limit vs ≡ true) × (length d < at + length (forms vs)))
-write-all-refusals limit vs d at r e = go (answers limit vs d at)
-  where
-    go : Answer limit vs d at → ((r .no ≡ 12) × (allWithin limit vs ≡ false)) ⊎ ((r .no ≡ 8) × (allWithin limit vs ≡ true) × (length d < at + length (forms vs)))
-    go (Answer.large h w) = inl (sym (ap noOf (w .answer ∙ e)), h)
-    go (Answer.narrow h l w) = inr (sym (ap noOf (w .answer ∙ e)), h, l)
-    go (Answer.fits h l w) = absurd (refused-next (sym (w .answer ∙ e)))
-
--- a refusal leaves the buffer as it was
-pub write-all-refused : (limit : Limit) (vs d : List ℕ) (at : ℕ) (r : Refusal) → writeAllAnswer limit vs d at ≡ written.Refused r → afterWriteAll limit vs d at ≡ d
-write-all-refused limit vs d at r e = go (answers limit vs d at)
-  where
-    go : Answer limit vs d at → afterWriteAll limit vs d at ≡ d
-    go (Answer.large h w) = sym (w .buffer)
-    go (Answer.narrow h l w) = sym (w .buffer)
-    go (Answer.fits h l w) = absurd (refused-next (sym (w .answer ∙ e)))
-
--- a place n as the answer: the numbers are within the limit, n is past their forms, and the forms have been stored
-pub record StoredAll (limit : Limit) (vs d : List ℕ) (at n : ℕ) : Type 0 where
-  pub within : allWithin limit vs ≡ true
-  pub place : n ≡ at + length (forms vs)
-  pub room : n ≤ length d
-  pub buffer : afterWriteAll limit vs d at ≡ sets d at (forms vs)
-
--- what a writer says by a next place
-pub write-all-next : (limit : Limit) (vs d : List ℕ) (at n : ℕ) → writeAllAnswer limit vs d at ≡ written.Next n → StoredAll limit vs d at n
-write-all-next limit vs d at n e = go (answers limit vs d at)
-  where
-    go : Answer limit vs d at → StoredAll limit vs d at n
-    go (Answer.large h w) = absurd (refused-next (w .answer ∙ e))
-    go (Answer.narrow h l w) = absurd (refused-next (w .answer ∙ e))
-    go (Answer.fits h l w) =
-        let q : written.Next (at + length (forms vs)) ≡ written.Next n = w .answer ∙ e in
-        let p : n ≡ at + length (forms vs) = cc in
-        record { within = h; place = p; room = omega arith; buffer = sym (w .buffer) }

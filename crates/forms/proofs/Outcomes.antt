@@ -4,17 +4,19 @@ use mathlib.Core.Bool.{Bool, true, false}
 use mathlib.Core.List.{List, [], _∷_, _++_, map, append-assoc}
 use Prim.Native.Nat.{ℕ, zero, suc, _*_, _≤_}
 use native.Mathlib.Omega.{arith}
-use native.Mathlib.Nat.{zero-mul, suc-mul, add-comm}
-use lib.Dec.{eqb, ltb}
-use lib.ListN.{length, drop, replicate, length-append, replicate-append-replicate}
-use borrow.Author.Tests.{eqb-true, eqb-false, eq-eqb, ltb-false, le-ltb}
+use native.Mathlib.Nat.{zero-mul, suc-mul}
+use lib.Dec.{eqb, leb}
+use lib.ListN.{length, drop, length-append}
+use borrow.Author.Tests.{eqb-true, eq-eqb, leb-true, le-leb}
 use Rattle.choice.specs.Choice.{if_then_else_}
+use Rattle.choice.specs.Tests.{refusal, _⨾_}
+use Rattle.choice.proofs.Tests.{test-passed, rest-passed, no-refusal, rest-unrefused}
 use Rattle.numbers.specs.Coding.{mostOf, readNumber}
 use Rattle.numbers.specs.declared.Limit.{Limit}
 use Rattle.numbers.specs.declared.Refusal.{Refusal}
 use Rattle.numbers.specs.declared.Read.{Read}
 use Rattle.numbers.specs.declared.Read.the-variants as read
-use Rattle.forms.specs.Forms.{Outcome, got, refused, refusedWith, Test, testRead, prepend, andThen, row, rows, untested, rowNo, rowsNo, asRead}
+use Rattle.forms.specs.Forms.{Outcome, got, refused, refusedWith, Test, testRead, prepend, andThen, row, rows, rowNo, rowsNo, asRead}
 
 -- numbers and a refusal are not the same
 pub refused-got : {r : Refusal} {vs : List ℕ} {next : ℕ} → refused r ≡ got vs next → ⊥
@@ -133,13 +135,6 @@ unfolding times
 times-map f zero tests = refl
 times-map f (suc n) tests = map-append f tests (times n tests) ∙ ap (λ (r : List Test). map f tests ++ r) (times-map f n tests)
 
--- n rows of k untested numbers
-pub times-untested : (n k : ℕ) → times n (replicate k untested) ≡ replicate (n * k) untested
-unfolding times
-times-untested zero k = rw (zero-mul k)
-times-untested (suc n) k =
-    rw (times-untested n k, suc-mul n k, add-comm (n * k) k) (replicate-append-replicate k (n * k) untested)
-
 -- no number is refused where there is none
 row-no-nil : (tests : List Test) → rowNo tests [] ≡ 0
 unfolding rowNo
@@ -147,16 +142,16 @@ row-no-nil [] = refl
 row-no-nil (t ∷ ts) = refl
 
 -- the first refusal of two rows
-pub row-no-append : (ts us : List Test) (vs : List ℕ) → rowNo (ts ++ us) vs ≡ (if eqb (rowNo ts vs) 0 then rowNo us (drop (length ts) vs) else rowNo ts vs)
+pub row-no-append : (ts us : List Test) (vs : List ℕ) → rowNo (ts ++ us) vs ≡ (refusal (rowNo ts vs) ⨾ rowNo us (drop (length ts) vs))
 unfolding rowNo
 row-no-append [] us vs = refl
 row-no-append (t ∷ ts) us [] = sym (row-no-nil us)
-row-no-append (t ∷ ts) us (v ∷ vs) = go (eqb (t v) 0) refl (row-no-append ts us vs)
+row-no-append (t ∷ ts) us (v ∷ vs) = go (t v) (row-no-append ts us vs)
   where
-    go : (b : Bool) → eqb (t v) 0 ≡ b → rowNo (ts ++ us) vs ≡ (if eqb (rowNo ts vs) 0 then rowNo us (drop (length ts) vs) else rowNo ts vs)
-        → (if b then rowNo (ts ++ us) vs else t v) ≡ (if eqb (if b then rowNo ts vs else t v) 0 then rowNo us (drop (length ts) vs) else (if b then rowNo ts vs else t v))
-    go true e h = h
-    go false e h = rw e
+    go : (n : ℕ) → rowNo (ts ++ us) vs ≡ (refusal (rowNo ts vs) ⨾ rowNo us (drop (length ts) vs))
+        → (refusal n ⨾ rowNo (ts ++ us) vs) ≡ (refusal (refusal n ⨾ rowNo ts vs) ⨾ rowNo us (drop (length ts) vs))
+    go zero h = h
+    go (suc n) h = refl
 
 -- the first refusal of n rows is that of one row
 pub rows-no-row : (n : ℕ) (tests : List Test) (vs : List ℕ) → rowsNo n tests vs ≡ rowNo (times n tests) vs
@@ -169,27 +164,21 @@ rows-no-row (suc n) tests vs = rw (rows-no-row n tests (drop (length tests) vs))
 -- a row's tests are passed where the first and the others are
 pub row-no-cons : (t : Test) (ts : List Test) (v : ℕ) (vs : List ℕ) → rowNo (t ∷ ts) (v ∷ vs) ≡ 0 → (t v ≡ 0) × (rowNo ts vs ≡ 0)
 unfolding rowNo
-row-no-cons t ts v vs e = go (eqb (t v) 0) refl e
-  where
-    go : (b : Bool) → eqb (t v) 0 ≡ b → (if b then rowNo ts vs else t v) ≡ 0 → (t v ≡ 0) × (rowNo ts vs ≡ 0)
-    go true q h = (eqb-true (t v) 0 q, h)
-    go false q h = absurd (eqb-false (t v) 0 q h)
+row-no-cons t ts v vs e = (no-refusal (t v) (rowNo ts vs) e, rest-unrefused (t v) (rowNo ts vs) e)
 
 -- and the other way round
 pub cons-row-no : (t : Test) (ts : List Test) (v : ℕ) (vs : List ℕ) → t v ≡ 0 → rowNo ts vs ≡ 0 → rowNo (t ∷ ts) (v ∷ vs) ≡ 0
 unfolding rowNo
-cons-row-no t ts v vs p q = rw (eq-eqb (t v) 0 p) q
+cons-row-no t ts v vs p q = rw p q
 
 -- a number passes as the reader tests it where it is within the limit and passes its own test
 pub as-read-zero : (limit : Limit) (t : Test) (v : ℕ) → asRead limit t v ≡ 0 → (v ≤ mostOf limit) × (t v ≡ 0)
 unfolding asRead
-as-read-zero limit t v e = go (ltb (mostOf limit) v) refl e
-  where
-    go : (b : Bool) → ltb (mostOf limit) v ≡ b → (if b then 12 else t v) ≡ 0 → (v ≤ mostOf limit) × (t v ≡ 0)
-    go true q h = absurd (omega arith)
-    go false q h = (ltb-false (mostOf limit) v q, h)
+as-read-zero limit t v e =
+    let within = leb v (mostOf limit) in
+    (leb-true v (mostOf limit) (test-passed 11 within (t v) e), rest-passed 11 within (t v) e)
 
 -- and the other way round
 pub zero-as-read : (limit : Limit) (t : Test) (v : ℕ) → v ≤ mostOf limit → t v ≡ 0 → asRead limit t v ≡ 0
 unfolding asRead
-zero-as-read limit t v w p = rw (le-ltb (mostOf limit) v w) p
+zero-as-read limit t v w p = rw (le-leb v (mostOf limit) w) p

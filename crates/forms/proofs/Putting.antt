@@ -15,7 +15,8 @@ use Rattle.numbers.specs.declared.Refusal.{Refusal}
 use Rattle.numbers.specs.declared.Written.the-variants as written
 use Rattle.numbers.proofs.Writes as one
 use Rattle.forms.specs.Forms.{forms, allWithin}
-use Rattle.forms.proofs.Steps.{sets-append, forms-next, forms-next-length, forms-none, within-next, and-left, and-right}
+use Rattle.forms.proofs.Steps.{sets-append, forms-next, forms-next-length, forms-none, within-next}
+use Rattle.choice.proofs.Tests.{and-l, and-r}
 
 -- the numbers from i on are left of vs, to be written from n on; what the whole comes to is fixed
 pub record Left (limit : Limit) (vs d₀ : List ℕ) (at : ℕ) (d : List ℕ) (n i : ℕ) : Type 0 where
@@ -34,7 +35,7 @@ module _ (limit : Limit) (vs d₀ : List ℕ) (at : ℕ) (d : List ℕ) (n i : �
   -- the next number has room and is within the limit
   next-fits : i < length vs → at + length (forms vs) ≤ length d₀ → one.Writes limit (getD vs i 0) d n (written.Next (n + length (form (getD vs i 0)))) (sets d n (form (getD vs i 0)))
   next-fits h r =
-      let w = and-left (leb (getD vs i 0) (mostOf limit)) (allWithin limit (drop (i + 1) vs)) (sym (within-next vs i limit h) ∙ l .within) in
+      let w = and-l (leb (getD vs i 0) (mostOf limit)) (allWithin limit (drop (i + 1) vs)) (sym (within-next vs i limit h) ∙ l .within) in
       one.wrote limit (getD vs i 0) d n (leb-true (getD vs i 0) (mostOf limit) w) (omega (arith, forms-next-length vs i h, l .ends, l .same))
 
   -- after it
@@ -48,7 +49,7 @@ module _ (limit : Limit) (vs d₀ : List ℕ) (at : ℕ) (d : List ℕ) (n i : �
       record {
         same = ap length t ∙ length-sets d n (form v) ∙ l .same;
         passed = omega arith;
-        within = and-right (leb v (mostOf limit)) (allWithin limit (drop (i + 1) vs)) (sym (within-next vs i limit h) ∙ l .within);
+        within = and-r (leb v (mostOf limit)) (allWithin limit (drop (i + 1) vs)) (sym (within-next vs i limit h) ∙ l .within);
         ends = omega (arith, forms-next-length vs i h, l .ends);
         left = rw (t, p) (sym (sets-append (form v) (forms (drop (i + 1) vs)) d n) ∙ ap (sets d n) (sym (forms-next vs i h)) ∙ l .left);
       }

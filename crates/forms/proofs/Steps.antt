@@ -108,16 +108,6 @@ module _ (vs : List ℕ) (i : ℕ) where
   unfolding allWithin
   within-none limit h = rw (drop-of-length-le vs h)
 
--- the first part of a conjunction holds
-pub and-left : (a b : Bool) → (a && b) ≡ true → a ≡ true
-and-left true b e = refl
-and-left false b e = e
-
--- the second part of a conjunction holds
-pub and-right : (a b : Bool) → (a && b) ≡ true → b ≡ true
-and-right true b e = e
-and-right false b e = absurd (let z : _≡_ {A = ℕ} 0 1 = cc in omega arith)
-
 -- what has been counted is taken off on both sides
 pub leb-less : (a b l : ℕ) → a ≤ l → leb (a + b) l ≡ leb b (l - a)
 leb-less a b l h = go (leb b (l - a)) refl

@@ -1,11 +1,12 @@
 -- What written forms are made of: numbers of the coding, one after the other, each tested when read.
-use mathlib.Core.Bool.{Bool, true, false, _&&_}
+use mathlib.Core.Bool.{Bool, true, _&&_}
 use mathlib.Core.List.{List, [], _∷_, _++_}
 use Prim.Native.Nat.{ℕ, zero, suc, _+_}
 use lib.Dec.{eqb, ltb, leb}
 use lib.ListN.{length, drop, replicate}
 use lib.Seq.{sets}
 use Rattle.choice.specs.Choice.{if_then_else_}
+use Rattle.choice.specs.Tests.{_unless_, refusal, _⨾_}
 use Rattle.numbers.specs.Coding.{mostOf, readNumber, form, refusedWrite, leaves}
 use Rattle.numbers.specs.declared.Limit.{Limit}
 use Rattle.numbers.specs.declared.Refusal.{Refusal}
@@ -94,17 +95,16 @@ forms (v ∷ vs) = form v ++ forms vs
 unfoldable pub rowNo : List Test → List ℕ → ℕ
 rowNo [] vs = 0
 rowNo (test ∷ tests) [] = 0
-rowNo (test ∷ tests) (v ∷ vs) = if eqb (test v) 0 then rowNo tests vs else test v
+rowNo (test ∷ tests) (v ∷ vs) = refusal (test v) ⨾ rowNo tests vs
 
 -- the first refusal of n rows
 unfoldable pub rowsNo : ℕ → List Test → List ℕ → ℕ
 rowsNo zero tests vs = 0
-rowsNo (suc n) tests vs =
-    if eqb (rowNo tests vs) 0 then rowsNo n tests (drop (length tests) vs) else rowNo tests vs
+rowsNo (suc n) tests vs = refusal (rowNo tests vs) ⨾ rowsNo n tests (drop (length tests) vs)
 
 -- a number to be written is tested as the reader would: 12 where it is too large for the coding, then its own test
 unfoldable pub asRead : Limit → Test → Test
-asRead limit test v = if ltb (mostOf limit) v then 12 else test v
+asRead limit test v = 12 unless leb v (mostOf limit) ⨾ test v
 
 -- all the numbers are within the limit
 unfoldable pub allWithin : Limit → List ℕ → Bool

@@ -11,10 +11,11 @@ use lib.ListN.{length, getD, set, take, drop, replicate, take-append-drop}
 use lib.Seq.{sets, set-getD, getD-drop, drop-cons, drop-at, drop-drop, take-suc, take-at, take-all, length-take-le}
 use borrow.Author.Tests.{ltb-true, leb-true}
 use Rattle.choice.specs.Choice.{if_then_else_}
-use Rattle.sets.specs.Scans.{mostScans, fits}
+use Rattle.sets.specs.Scans.{fits}
 use Rattle.sets.specs.declared.scans.Scans.{Scans}
-use Rattle.sizes.specs.Sizes.{scansInRange, sizesInRange}
+use Rattle.sizes.specs.Sizes.{sizesInRange}
 use Rattle.sizes.specs.declared.Sizes.{Sizes}
+use Rattle.sizes.proofs.SizeLaws.{bounds}
 use Rattle.forms.proofs.Steps.{sets-append}
 use Rattle.model.specs.Records.{unheard}
 use Rattle.model.specs.Ranges.{all, acceptorInRange, proposerInRange, heardInRange, learnerInRange}
@@ -22,8 +23,8 @@ use Rattle.model.specs.declared.Acceptor.{Acceptor}
 use Rattle.model.specs.declared.Heard.{Heard}
 use Rattle.model.specs.declared.Learner.{Learner}
 use Rattle.model.specs.declared.Proposer.{Proposer}
-use Rattle.model.proofs.Cases.{and-l, and-r}
-use Rattle.layouts.specs.Layout.{wordAt, wordBytes, setAt, setBytes, isFlag, flagAt, flagBytes, flagged, isAcceptor, acceptorAt, acceptorBytes, isProposer, proposerAt, proposerBytes, placeOf, heardAt, heardBytes, placesAt, placesBytes, isLearner, learnerAt, learnerBytes}
+use Rattle.choice.proofs.Tests.{and-l, and-r}
+use Rattle.layouts.specs.Layout.{wordAt, wordBytes, setAt, setBytes, isFlag, flagAt, flagBytes, flagged, isAcceptor, acceptorAt, acceptorBytes, isProposer, proposerAt, proposerBytes, heardPlace, heardAt, heardBytes, placesAt, placesBytes, isLearner, learnerAt, learnerBytes}
 use Rattle.layouts.proofs.Parts.{put-whole, proposer-whole, put-fields, acceptor-length, learner-sizes, few-proposers}
 use Rattle.layouts.proofs.Places.{eight-heard, length-places-at, length-places, places-append, put-heard-fields, learner-whole, put-learner-parts}
 
@@ -70,9 +71,9 @@ flag-same bytes at e = rw (flag-value (getD bytes at 0) (leb-true (getD bytes at
 
 -- a set of a run is a number of 8 bytes
 set-small : (z : Sizes) (v : Scans) → sizesInRange z ≡ true → fits v (z .scans) ≡ true → v .bits < 256 ^ 8
-unfolding sizesInRange scansInRange mostScans fits
+unfolding fits
 set-small z v e f =
-    let s : z .scans ≤ 64 = search (and-l, and-r, leb-true) depth 9 in
+    let s = bounds z e .few-scans in
     let p : 2 ^ z .scans ≤ 2 ^ 64 = pow-le-pow-right {n = 2} (omega arith) {i = z .scans} {j = 64} s in
     omega (arith, ltb-true (v .bits) (2 ^ z .scans) f)
 
@@ -180,19 +181,19 @@ drop-places n hs h =
     rw e (drop-at (placesBytes (take n hs)) (placesBytes (drop n hs)) (11 * n) (length-places (take n hs) ∙ ap (λ (k : ℕ). 11 * k) (length-take-le n hs h)))
 
 module _ (z : Sizes) (front : List ℕ) (hs : List Heard) (f : length front ≡ 9) (e : sizesInRange z ≡ true) where
-  place-back : (n : ℕ) → n < length hs → heardInRange z (getD hs n unheard) ≡ true → heardAt (front ++ placesBytes hs) (placeOf n) ≡ getD hs n unheard
+  place-back : (n : ℕ) → n < length hs → heardInRange z (getD hs n unheard) ≡ true → heardAt (front ++ placesBytes hs) (heardPlace n) ≡ getD hs n unheard
   unfolding placesBytes
   place-back n h x =
       let bytes = front ++ placesBytes hs in
-      let d : drop (placeOf n) bytes ≡ heardBytes (getD hs n unheard) ++ placesBytes (drop (suc n) hs) =
+      let d : drop (heardPlace n) bytes ≡ heardBytes (getD hs n unheard) ++ placesBytes (drop (suc n) hs) =
       sym (drop-drop (11 * n) 9 bytes) ∙ ap (drop (11 * n)) (drop-at front (placesBytes hs) 9 f) ∙ drop-places n hs (omega arith) ∙ ap placesBytes (drop-cons hs n unheard h) in
-      sym (heard-drop bytes (placeOf n)) ∙ ap (λ (l : List ℕ). heardAt l 0) d ∙ heard-back z (getD hs n unheard) (placesBytes (drop (suc n) hs)) e x
+      sym (heard-drop bytes (heardPlace n)) ∙ ap (λ (l : List ℕ). heardAt l 0) d ∙ heard-back z (getD hs n unheard) (placesBytes (drop (suc n) hs)) e x
 
   places-back : (n : ℕ) → n ≤ length hs → ((i : ℕ) → i < n → heardInRange z (getD hs i unheard) ≡ true) → placesAt n (front ++ placesBytes hs) ≡ take n hs
   unfolding placesAt
   places-back zero h x = refl
   places-back (suc n) h x =
-      ap (λ (l : List Heard). l ++ heardAt (front ++ placesBytes hs) (placeOf n) ∷ []) (places-back n (omega arith) (λ i j. x i (omega arith)))
+      ap (λ (l : List Heard). l ++ heardAt (front ++ placesBytes hs) (heardPlace n) ∷ []) (places-back n (omega arith) (λ i j. x i (omega arith)))
       ∙ ap (λ (g : Heard). take n hs ++ g ∷ []) (place-back n h (x n (omega arith)))
       ∙ sym (take-suc hs n unheard h)
 
@@ -249,11 +250,11 @@ module _ (bytes : List ℕ) (b : AreBytes bytes) where
   places-same zero = refl
   places-same (suc n) =
       let us = placesBytes (placesAt n bytes) in
-      let h = heardAt bytes (placeOf n) in
-      let m : 9 + length us ≡ placeOf n = omega (arith, length-places (placesAt n bytes), length-places-at n bytes) in
+      let h = heardAt bytes (heardPlace n) in
+      let m : 9 + length us ≡ heardPlace n = omega (arith, length-places (placesAt n bytes), length-places-at n bytes) in
       ap (sets bytes 9) (places-append (placesAt n bytes) (h ∷ []) ∙ ap (λ (l : List ℕ). us ++ l) (append-nil (heardBytes h)))
       ∙ sets-append us (heardBytes h) bytes 9
-      ∙ rw (places-same n, m) (heard-same (placeOf n))
+      ∙ rw (places-same n, m) (heard-same (heardPlace n))
 
   pub learner-same : (p a s : ℕ) → isLearner p a s bytes ≡ true → learnerBytes p (learnerAt p bytes) ≡ bytes
   unfolding isLearner learnerAt

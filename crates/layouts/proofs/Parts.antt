@@ -13,8 +13,8 @@ use Rattle.sets.specs.Acceptors.{mostAcceptors}
 use Rattle.sets.specs.declared.scans.Scans.{Scans}
 use Rattle.sizes.specs.Sizes.{sizesInRange}
 use Rattle.model.specs.declared.Proposer.{Proposer}
-use Rattle.model.proofs.Cases.{and-l, and-r}
-use Rattle.layouts.specs.Layout.{sizesOf, wordBytes, setBytes, numberBytes, acceptorsBytes, flagBytes, flagged, isAnswer, isAcceptor, isProposer, proposerBytes, placeOf, isLearner}
+use Rattle.choice.proofs.Tests.{and-l, and-r}
+use Rattle.layouts.specs.Layout.{sizesOf, wordBytes, setBytes, numberBytes, acceptorsBytes, flagBytes, flagged, isAnswer, isAcceptor, isProposer, proposerBytes, heardPlace, isLearner}
 
 -- ---- a test by a function, in what its result is
 
@@ -57,7 +57,7 @@ proposer-length : (a s : ℕ) (bytes : List ℕ) → isProposer a s bytes ≡ tr
 unfolding isProposer
 proposer-length a s bytes e = search (and-l, and-r, eqb-true) depth 9
 
-pub learner-length : (p a s : ℕ) (bytes : List ℕ) → isLearner p a s bytes ≡ true → length bytes ≡ placeOf p
+pub learner-length : (p a s : ℕ) (bytes : List ℕ) → isLearner p a s bytes ≡ true → length bytes ≡ heardPlace p
 unfolding isLearner
 learner-length p a s bytes e = search (and-l, and-r, eqb-true) depth 9
 

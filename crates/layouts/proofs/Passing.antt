@@ -15,8 +15,8 @@ use Rattle.model.specs.Ranges.{acceptorInRange, proposerInRange, learnerInRange
 use Rattle.model.specs.declared.Acceptor.{Acceptor}
 use Rattle.model.specs.declared.Learner.{Learner}
 use Rattle.model.specs.declared.Proposer.{Proposer}
-use Rattle.model.proofs.Cases.{and-l, and-r}
-use Rattle.layouts.specs.Layout.{sizesOf, wordBytes, setAt, isSet, isFlag, isAcceptor, acceptorAt, acceptorBytes, isProposer, proposerAt, proposerBytes, placeOf, isLearner, learnerAt, learnerBytes}
+use Rattle.choice.proofs.Tests.{and-l, and-r}
+use Rattle.layouts.specs.Layout.{sizesOf, wordBytes, setAt, isSet, isFlag, isAcceptor, acceptorAt, acceptorBytes, isProposer, proposerAt, proposerBytes, heardPlace, isLearner, learnerAt, learnerBytes}
 use Rattle.layouts.proofs.Places.{length-learner}
 use Rattle.layouts.proofs.LayoutLaws.{acceptor-back, proposer-back, ownPlaces, learner-back}
 
@@ -53,7 +53,7 @@ module _ (p a s : ℕ) (l : Learner) (many : p ≤ length (l .heard)) (e : sizes
   pub learner-passes : isLearner p a s (learnerBytes p l) ≡ true
   unfolding isLearner
   learner-passes =
-      let n : eqb (length (learnerBytes p l)) (placeOf p) ≡ true = eq-eqb _ _ (length-learner p l many) in
+      let n : eqb (length (learnerBytes p l)) (heardPlace p) ≡ true = eq-eqb _ _ (length-learner p l many) in
       let r : learnerInRange (sizesOf p a s) (learnerAt p (learnerBytes p l)) ≡ true = ap (learnerInRange (sizesOf p a s)) (learner-back (sizesOf p a s) l many e x) ∙ own-range in
       rw (e, n, flagged-first, r)
 

@@ -17,7 +17,7 @@ use Rattle.model.specs.declared.Learner.{Learner}
 use Rattle.model.specs.declared.Message.{Message}
 use Rattle.model.proofs.RuleLaws.{listening-heard}
 use Rattle.model.proofs.Moments.{earlier}
-use Rattle.layouts.specs.Layout.{wordBytes, setBytes, numberBytes, acceptorsBytes, flagBytes, flagged, placeOf, heardBytes, heardAt, placesBytes, placesAt, isLearner, learnerAt, learnerBytes}
+use Rattle.layouts.specs.Layout.{wordBytes, setBytes, numberBytes, acceptorsBytes, flagBytes, flagged, heardPlace, heardBytes, heardAt, placesBytes, placesAt, isLearner, learnerAt, learnerBytes}
 use Rattle.layouts.proofs.Parts.{put-whole, learner-length, learner-sizes, few-proposers}
 
 -- ---- reading
@@ -26,7 +26,7 @@ pub length-places-at : (n : ℕ) (bytes : List ℕ) → length (placesAt n bytes
 unfolding placesAt
 length-places-at zero bytes = refl
 length-places-at (suc n) bytes =
-    length-append (placesAt n bytes) (heardAt bytes (placeOf n) ∷ []) ∙ omega (arith, length-places-at n bytes)
+    length-append (placesAt n bytes) (heardAt bytes (heardPlace n) ∷ []) ∙ omega (arith, length-places-at n bytes)
 
 -- the first i places are read, of eight
 abbrev pub places : ℕ → List ℕ → List Heard
@@ -36,11 +36,11 @@ eight-read : (i : ℕ) (bytes : List ℕ) → i ≤ 8 → length (places i bytes
 eight-read i bytes h =
     length-append (placesAt i bytes) (replicate (8 - i) unheard) ∙ omega (arith, length-places-at i bytes, length-replicate (8 - i) unheard)
 
-pub read-place : (i : ℕ) (bytes : List ℕ) → i < 8 → set (places i bytes) i (heardAt bytes (placeOf i)) ≡ places (i + 1) bytes
+pub read-place : (i : ℕ) (bytes : List ℕ) → i < 8 → set (places i bytes) i (heardAt bytes (heardPlace i)) ≡ places (i + 1) bytes
 unfolding placesAt
 read-place i bytes h =
     let p : 8 - i ≡ suc (8 - (i + 1)) = omega arith in
-    rw (p, add-one i) (set-at (placesAt i bytes) unheard (replicate (8 - suc i) unheard) (heardAt bytes (placeOf i)) i (length-places-at i bytes) ∙ sym (append-snoc (placesAt i bytes) (heardAt bytes (placeOf i)) (replicate (8 - suc i) unheard)))
+    rw (p, add-one i) (set-at (placesAt i bytes) unheard (replicate (8 - suc i) unheard) (heardAt bytes (heardPlace i)) i (length-places-at i bytes) ∙ sym (append-snoc (placesAt i bytes) (heardAt bytes (heardPlace i)) (replicate (8 - suc i) unheard)))
 
 -- a greater number than eight leaves none unread
 pub eight-left : (p : ℕ) → 8 - min p 8 ≡ 8 - p
@@ -75,12 +75,12 @@ places-append (h ∷ hs) ks = ap (λ (l : List ℕ). heardBytes h ++ l) (places-
 
 -- the place after the first i
 pub put-place : (kept : List ℕ) (hs : List Heard) (i : ℕ) → i < length hs
-    → sets (sets kept 9 (placesBytes (take i hs))) (placeOf i) (heardBytes (getD hs i unheard)) ≡ sets kept 9 (placesBytes (take (i + 1) hs))
+    → sets (sets kept 9 (placesBytes (take i hs))) (heardPlace i) (heardBytes (getD hs i unheard)) ≡ sets kept 9 (placesBytes (take (i + 1) hs))
 unfolding placesBytes
 put-place kept hs i h =
     let us = placesBytes (take i hs) in
     let v = heardBytes (getD hs i unheard) in
-    let n : placeOf i ≡ 9 + length us = omega (arith, length-places (take i hs), length-take-le i hs (omega arith)) in
+    let n : heardPlace i ≡ 9 + length us = omega (arith, length-places (take i hs), length-take-le i hs (omega arith)) in
     let e : placesBytes (take (suc i) hs) ≡ us ++ v = ap placesBytes (take-suc hs i unheard h) ∙ places-append (take i hs) (getD hs i unheard ∷ []) ∙ ap (λ (l : List ℕ). us ++ l) (append-nil v) in
     rw (add-one i, e, n) (sym (sets-append us v kept 9))
 
@@ -97,7 +97,7 @@ put-heard-fields b₀ at h e₁ e₂ e₃ =
     let q = acceptorsBytes (h .acceptors) in
     e₃ ∙ ap (λ (l : List ℕ). sets l (at + 10) q) (e₂ ∙ ap (λ (l : List ℕ). sets l (at + 2) v) e₁ ∙ sym (sets-append n v b₀ at)) ∙ sym (sets-append (n ++ v) q b₀ at)
 
-pub length-learner : (p : ℕ) (l : Learner) → p ≤ length (l .heard) → length (learnerBytes p l) ≡ placeOf p
+pub length-learner : (p : ℕ) (l : Learner) → p ≤ length (l .heard) → length (learnerBytes p l) ≡ heardPlace p
 unfolding wordBytes learnerBytes
 length-learner p l h =
     let hs = take p (l .heard) in

@@ -131,8 +131,8 @@ isProposer a s bytes =
 
 -- ---- a learner's record, 9 bytes and 11 for each proposer: alive, learnt, then for each proposer number, set, acceptors
 
-abbrev pub placeOf : ℕ → ℕ
-placeOf i = 9 + 11 * i
+abbrev pub heardPlace : ℕ → ℕ
+heardPlace i = 9 + 11 * i
 
 unfoldable pub heardBytes : Heard → List ℕ
 heardBytes h = numberBytes (h .number) ++ setBytes (h .set) ++ acceptorsBytes (h .acceptors)
@@ -149,7 +149,7 @@ placesBytes (h ∷ hs) = heardBytes h ++ placesBytes hs
 -- of the first n proposers
 unfoldable pub placesAt : ℕ → List ℕ → List Heard
 placesAt zero bytes = []
-placesAt (suc n) bytes = placesAt n bytes ++ heardAt bytes (placeOf n) ∷ []
+placesAt (suc n) bytes = placesAt n bytes ++ heardAt bytes (heardPlace n) ∷ []
 
 unfoldable pub learnerBytes : ℕ → Learner → List ℕ
 learnerBytes p l = flagged (l .alive) (l .learnt) ++ placesBytes (take p (l .heard))
@@ -165,6 +165,6 @@ learnerAt p bytes = record {
 unfoldable pub isLearner : ℕ → ℕ → ℕ → List ℕ → Bool
 isLearner p a s bytes =
     sizesInRange (sizesOf p a s)
-    && eqb (length bytes) (placeOf p)
+    && eqb (length bytes) (heardPlace p)
     && isFlag bytes 0
     && learnerInRange (sizesOf p a s) (learnerAt p bytes)

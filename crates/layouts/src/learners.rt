@@ -3,7 +3,7 @@ ghost use mathlib.Core.Path.{_≡_};
 ghost use Prim.Native.Nat.{_≤_, _<_, min};
 ghost use lib.ListN.{take};
 ghost use lib.Seq.{sets};
-ghost use Rattle.layouts.specs.Layout.{placeOf, heardAt, heardBytes, placesBytes, isLearner, learnerAt, learnerBytes};
+ghost use Rattle.layouts.specs.Layout.{heardPlace, heardAt, heardBytes, placesBytes, isLearner, learnerAt, learnerBytes};
 use crate::fields::acceptors_at;
 use crate::fields::flag_at;
 use crate::fields::is_flag;
@@ -20,7 +20,7 @@ use model::Learner;
 // What was heard of one proposer.
 fn heard_at(kept: &[u8], proposer: u16) -> Heard
     requires { ⌜ proposer < 8 ⌝ }
-    ensures { λ r. ⌜ r ≡ heardAt (now (kept .entry)) (placeOf proposer) ⌝ }
+    ensures { λ r. ⌜ r ≡ heardAt (now (kept .entry)) (heardPlace proposer) ⌝ }
 {
     let at = 9 + 11 * proposer;
     let number = number_at(kept, at);
@@ -35,7 +35,7 @@ fn heard_at(kept: &[u8], proposer: u16) -> Heard
 
 fn put_heard(kept: &mut [u8], proposer: u16, heard: Heard)
     requires { ⌜ proposer < 8 ⌝ }
-    ensures { λ _. ⌜ now (kept .exit) ≡ sets (now (kept .entry)) (placeOf proposer) (heardBytes heard) ⌝ }
+    ensures { λ _. ⌜ now (kept .exit) ≡ sets (now (kept .entry)) (heardPlace proposer) (heardBytes heard) ⌝ }
 {
     let at = 9 + 11 * proposer;
     put_number(kept, at, heard.number);

@@ -1,4 +1,4 @@
--- Laws of the calls on records that a caller lends: where fresh refuses nothing every record is made fresh, and otherwise none; and the tests of all that is lent are those of the records in range.
+-- Laws of the calls on records that a caller lends: where fresh refuses nothing every record is made fresh, and otherwise none.
 use mathlib.Core.Path.{_≡_, refl, sym, _∙_, ap}
 use Prim.Native.Nat.{ℕ, _≤_}
 use native.Mathlib.Omega.{arith}
@@ -11,14 +11,14 @@ use Rattle.choice.specs.Choice.{if_then_else_}
 use Rattle.sizes.specs.Sizes.{sizesInRange}
 use Rattle.sizes.specs.declared.Sizes.{Sizes}
 use Rattle.model.specs.Records.{State, fresh, freshProposer, freshAcceptor, freshLearner, freeSlot}
-use Rattle.model.specs.Tests.{_unless_, _⨾_, ok}
-use Rattle.model.specs.Ranges.{all, proposerInRange, acceptorInRange, learnerInRange, messageInRange, lengthsInRange, recordsInRange}
+use Rattle.choice.specs.Tests.{_unless_, _⨾_, ok}
+use Rattle.model.specs.Ranges.{lengthsInRange}
 use Rattle.model.specs.declared.Proposer.{Proposer}
 use Rattle.model.specs.declared.Acceptor.{Acceptor}
 use Rattle.model.specs.declared.Learner.{Learner}
 use Rattle.model.specs.declared.Message.{Message}
-use Rattle.model.proofs.Cases.{and-l, and-r}
-use Rattle.machine.specs.Calls.{lent, lengthsAre, soundOf, turnsOf, sizedNo, freshNo, afterFresh}
+use Rattle.choice.proofs.Tests.{and-l, and-r}
+use Rattle.machine.specs.Calls.{lent, lengthsAre, turnsOf, sizedNo, freshNo, afterFresh}
 use Rattle.machine.proofs.Filling.{filled}
 
 -- ---- one list of n records, by the test b
@@ -114,9 +114,3 @@ module _ (z : Sizes) (ps : List Proposer) (acs : List Acceptor) (ls : List Learn
   pub fresh-slots : filled (turnsOf refusal (z .slots)) freeSlot t ≡ afterFresh z s .slots
   unfolding fresh lengthsInRange
   fresh-slots = filled-by t (z .slots) freeSlot sized (λ (r : State). r .slots) (fresh z) s refl refl all-slots
-
-  -- ---- all that is lent is in range
-
-  pub sound-records : soundOf sized (all (proposerInRange z) ps) (all (acceptorInRange z) acs) (all (learnerInRange z) ls) (all (messageInRange z) t) ≡ (1 unless recordsInRange z s ⨾ ok)
-  unfolding recordsInRange lengthsInRange
-  sound-records = refl

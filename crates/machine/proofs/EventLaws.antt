@@ -14,8 +14,8 @@ use Rattle.sizes.specs.declared.Sizes.{Sizes}
 use Rattle.sets.specs.Scans.{mostScans}
 use Rattle.model.specs.Records.{State, Kind, free, internal, proposal, acknowledgement, rejection, announcement, noKind, kindOf, Role, aProposer, anAcceptor, aLearner, noRole, roleOf, addressed, proposerOf, acceptorOf, learnerOf, slotOf, freeing}
 use Rattle.model.specs.Table.{isFree}
-use Rattle.model.specs.Tests.{_unless_, _⨾_, refusal, ok}
-use Rattle.model.specs.Rules.{isCurrent, proposeNo, afterPropose, refineNo, afterRefine, decideNo, afterDecide, accepts, accepting, refusing, answering}
+use Rattle.choice.specs.Tests.{_unless_, _⨾_, refusal, ok}
+use Rattle.model.specs.Rules.{isCurrent, proposeNo, afterPropose, refineNo, afterRefine, decideNo, afterDecide, accepts, accepting, gaining, answering}
 use Rattle.model.specs.Ranges.{all, fieldsInRange, messageInRange}
 use Rattle.model.specs.Events.{Code, receive, deliver, drop, duplicate, propose, refine, decide, crash, noCode, Effect, quiet, effect, delivery, proposes, crashed, exists, isAlive, hasRoom, tests}
 use Rattle.model.specs.declared.Proposer.{Proposer}
@@ -25,13 +25,13 @@ use Rattle.model.specs.declared.Message.{Message}
 use Rattle.model.specs.declared.Event.{Event}
 use Rattle.model.specs.declared.Answer.{Answer}
 use Rattle.model.specs.declared.Answer.the-variants.{Ok}
-use Rattle.model.proofs.Cases.{and-l, and-r, test-passed, rest-passed, no-refusal}
+use Rattle.choice.proofs.Tests.{and-l, and-r, test-passed, rest-passed, no-refusal}
 use Rattle.model.proofs.RuleRanges.{all-at}
 use Rattle.decisions.specs.declared.decide.Change.{Change}
 use Rattle.decisions.specs.Sending.{itemsOf}
 use Rattle.decisions.specs.Change.{asProposer, asScan, acceptorSends, answeringOf, acknowledgedBy, rejectedBy, deliveringOf, crashingOf, receivingOf, changeOf, learnerAfter, slotAfter, learnerAnswer, answerOf}
 use Rattle.decisions.specs.Refusals.{aliveIn, testNo}
-use Rattle.decisions.proofs.Bounds.{bounds}
+use Rattle.sizes.proofs.SizeLaws.{bounds}
 use Rattle.decisions.proofs.Items.{items-silence, items-one, items-everyone, items-others, items-acknowledgements}
 use Rattle.machine.specs.Stepping.{partyAt}
 use Rattle.machine.proofs.Readiness.{same}
@@ -161,7 +161,7 @@ module _ (z : Sizes) (s : State) (i j k x : ℕ) where
   internal-does e = rw (← e) (search (same, items-silence))
 
   proposal-does : j ≡ m .addressee → (t : Bool) → accepts c (m .set) ≡ t → DeliveryDoes proposal
-  unfolding deliveringOf answeringOf answering accepting refusing acceptorSends delivery learnerAfter slotAfter
+  unfolding deliveringOf answeringOf answering accepting gaining acceptorSends delivery learnerAfter slotAfter
   proposal-does e true h = rw (← e, h) (search (same, items-acknowledgements))
   proposal-does e false h = rw (← e, h) (search (same, items-one))
 

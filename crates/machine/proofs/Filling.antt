@@ -47,9 +47,10 @@ use denote.Triple.Entry.{Vals, onEntry}
 use denote.Triple.Spec.{Meets, tripleOf}
 use denote.Triple.Statement.{Triple}
 use denote.Triple.Walked.{says, needs, Stays, stay-none, stay-slice, walkOf, goes-none, goes-slice, Walks, ends-at, walked, walk-meets}
-use Rattle.machine.proofs.Called.{by-value, ends, calls-value}
-use Rattle.machine.proofs.LentCalls.{lending}
-use Rattle.machine.proofs.Turns.{tests, Nearer, Nearer-wf, fits-place, fits-next, falls}
+use Rattle.machine.proofs.CallsByValue.{by-value, ends, calls-value}
+use Rattle.machine.proofs.CallsLending.{lending}
+use Rattle.machine.proofs.LoopsOverSteps.{at-end}
+use Rattle.machine.proofs.WalkedLoops.{tests, Nearer, Nearer-wf, fits-place, fits-next, falls}
 
 -- ---- what a turn keeps: the first i are d, and the others as they were
 
@@ -63,9 +64,6 @@ one-more {X} (suc i) d (x ∷ l) h = ap (λ (r : List X). d ∷ r) (one-more i d
 
 filled-next : {X : Type 0} (i : ℕ) (d : X) (l : List X) → i < length l → set (filled i d l) i d ≡ filled (i + 1) d l
 filled-next i d l h = one-more i d l h ∙ ap (λ (k : ℕ). filled k d l) (sym (add-one i))
-
-same : (i n : ℕ) → i ≤ n → n ≤ i → i ≡ n
-same i n a b = omega arith
 
 -- ---- the code and its contract
 
@@ -214,7 +212,7 @@ module _ (D : Declared) (L : LL.Laws D) (pl : Plains (fields D)) (d : D .D) (sma
           assigns ! (of-opd ! (unit-lit !)) (from ! (stop !)) (init ! 17 refl (tt, tt)) $
           returns ! (look ! 17 refl) $ forget ! 7 refl $ forget ! 9 refl $ forget ! 11 refl $ forget ! 13 refl $ forget ! 15 refl $ forget ! 17 refl $
           move ! (17 ∷ 18 ∷ []) $ free1 ! $ move ! (15 ∷ 16 ∷ []) $ free1 ! $ move ! (13 ∷ 14 ∷ []) $ free1 ! $ move ! (11 ∷ 12 ∷ []) $ free1 ! $ move ! (9 ∷ 10 ∷ []) $ free1 ! $ move ! (7 ∷ 8 ∷ []) $ free1 ! $ move ! (5 ∷ 6 ∷ []) $ free1 ! $ move ! (3 ∷ 4 ∷ []) $ free1 ! $ free0 ! $
-          by ! (exits ws (t .2 .1) (t .2 .2 ∙ ap (λ (k : ℕ). filled k d ys) (same i n (t .2 .0) (nltb→le i n off)))))
+          by ! (exits ws (t .2 .1) (t .2 .2 ∙ ap (λ (k : ℕ). filled k d ys) (at-end i n (t .2 .0) (nltb→le i n off)))))
         where
           i : ℕ
           i = t .0

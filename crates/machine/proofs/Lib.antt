@@ -1,8 +1,8 @@
-pub mod Again
-pub mod Called
-pub mod Calling
+pub mod Relending
+pub mod CallsByValue
+pub mod CallsWithSlices
 pub mod Filling
-pub mod LentCalls
+pub mod CallsLending
 pub mod Loading
 pub mod Locals
 pub mod Posting
@@ -13,10 +13,10 @@ pub mod StepLaws
 pub mod RunLaws
 pub mod Longer
 pub mod CallLaws
-pub mod StepCalls
-pub mod Rounds
+pub mod CallTests
+pub mod LoopsOverSteps
 pub mod Histories
 pub mod Storing
 pub mod Testing
-pub mod Turns
+pub mod WalkedLoops
 pub mod Unchanged

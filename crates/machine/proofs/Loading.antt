@@ -38,8 +38,8 @@ use denote.Triple.Entry.{Vals, onEntry}
 use denote.Triple.Spec.{Meets}
 use denote.Triple.Walked.{says, needs, Stays, stay-none, stay-none-slice, walkOf, goes-none, goes-none-slice, Walks, ends-at, walked, walk-meets}
 use denote.Exit.{yes}
-use Rattle.machine.proofs.LentCalls.{sharing}
-use Rattle.machine.proofs.Turns.{fits-place}
+use Rattle.machine.proofs.CallsLending.{sharing}
+use Rattle.machine.proofs.WalkedLoops.{fits-place}
 
 abbrev word : Ty
 word = tyInt w64

@@ -2,7 +2,7 @@
 --     copied, copied-typed     what an array of n copies of a value is to the machine, and that it is one
 --     lends-own        the local's cell, which has the array ys  →  the slice and its token, and in the cell's place the lender's part
 --     takes-own        the slice at any list, its token, and the lender's part  →  room in the local, in that part's place
--- Between the two the slice is lent on by `Calling.antt`'s `calls`, as any other. The array is n long. Both name the place of the local in the context.
+-- Between the two the slice is lent on by `CallsWithSlices.antt`'s `calls`, as any other. The array is n long. Both name the place of the local in the context.
 -- Assumes `Given`. T is plain data of one machine type.
 use mathlib.Core.Path.{_≡_, refl, sym, subst}
 use Prim.Native.Nat.{ℕ, zero, suc}
@@ -32,7 +32,7 @@ use denote.Slice.{heres, Room, finally, codedHoleys, res-finally}
 use denote.Lend.{Held, lends-slice, slice-back}
 use denote.Index.{row, whole-in, whole-out}
 use denote.Steps.{owned, peeks}
-use Rattle.machine.proofs.Again.{Slice}
+use Rattle.machine.proofs.Relending.{Slice}
 
 -- ---- copies of one value
 

@@ -8,14 +8,14 @@ use native.Mathlib.Omega.{arith}
 use lib.Dec.{eqb}
 use lib.ListN.{length, getD, set, drop, replicate, length-append, length-set, replicate-append-replicate, List·getD-append}
 use lib.Seq.{set-append-left}
-use borrow.Author.Tests.{leb-true, not-true}
+use borrow.Author.Tests.{not-true}
 use Rattle.choice.specs.Choice.{if_then_else_}
-use Rattle.sets.specs.Acceptors.{mostAcceptors}
 use Rattle.sizes.specs.Sizes.{sizesInRange}
+use Rattle.sizes.proofs.SizeLaws.{bounds}
 use Rattle.sizes.specs.declared.Sizes.{Sizes}
 use Rattle.model.specs.Records.{fresh, freshProposer, freshAcceptor, freshLearner, freeSlot}
 use Rattle.model.specs.Table.{isFree, freeSlots, place, post}
-use Rattle.model.specs.Tests.{_unless_, _⨾_, ok}
+use Rattle.choice.specs.Tests.{_unless_, _⨾_, ok}
 use Rattle.model.specs.Ranges.{all, recordsInRange}
 use Rattle.model.specs.Step.{run, answers}
 use Rattle.model.specs.declared.Proposer.{Proposer}
@@ -23,7 +23,7 @@ use Rattle.model.specs.declared.Acceptor.{Acceptor}
 use Rattle.model.specs.declared.Learner.{Learner}
 use Rattle.model.specs.declared.Message.{Message}
 use Rattle.model.specs.declared.Event.{Event}
-use Rattle.model.proofs.Cases.{and-l, and-r, and-i}
+use Rattle.choice.proofs.Tests.{and-l, and-i}
 use Rattle.model.proofs.States.{length-post}
 use Rattle.model.proofs.InRange.{run-in-range}
 use Rattle.decisions.specs.Sending.{isTaken, itemsOf}
@@ -32,6 +32,7 @@ use Rattle.machine.specs.declared.step.Decision.{Decision}
 use Rattle.machine.specs.Stepping.{within, partyOf, decideOf, finishOf, replyOf, Fits, Left, theMessage, stepOf}
 use Rattle.machine.specs.Running.{eventOf, eventsIn, noted, Ran, onward, ranTo, driven, Drives}
 use Rattle.machine.specs.Calls.{logged, hasNumbers, wholeNo, wholeRunNo, logAfterWholeRun, turnsOf}
+use Rattle.machine.proofs.Posting.{others-take}
 use Rattle.machine.proofs.Readiness.{proposer-there, acceptor-there, learner-there, slot-there}
 use Rattle.machine.proofs.RunLaws.{driven-ends, in-range-fits, numbers-there}
 
@@ -41,19 +42,15 @@ first-taken : (x : Message) (t : List Message) → all isTaken (x ∷ t) ≡ tru
 unfolding all
 first-taken x t h = not-true (isFree x) (and-l (isTaken x) (all isTaken t) h)
 
-rest-taken : (x : Message) (t : List Message) → all isTaken (x ∷ t) ≡ true → all isTaken t ≡ true
-unfolding all
-rest-taken x t h = and-r (isTaken x) (all isTaken t) h
-
 free-none : (t : List Message) → all isTaken t ≡ true → freeSlots t ≡ 0
 unfolding freeSlots
 free-none [] h = refl
-free-none (x ∷ t) h = rw (first-taken x t h) (free-none t (rest-taken x t h))
+free-none (x ∷ t) h = rw (first-taken x t h) (free-none t (others-take x t h))
 
 place-none : (m : Message) (t : List Message) → all isTaken t ≡ true → place m t ≡ t
 unfolding place
 place-none m [] h = refl
-place-none m (x ∷ t) h = rw (first-taken x t h) (ap (λ (u : List Message). x ∷ u) (place-none m t (rest-taken x t h)))
+place-none m (x ∷ t) h = rw (first-taken x t h) (ap (λ (u : List Message). x ∷ u) (place-none m t (others-take x t h)))
 
 choice-append : (b : Bool) (u v w : List Message) → (if b then (u ++ w) else (v ++ w)) ≡ (if b then u else v) ++ w
 choice-append true u v w = refl
@@ -249,42 +246,27 @@ taken-copies x h (suc n) = and-i (isTaken x) (all isTaken (replicate n x)) h (ta
 taken-drop : (k : ℕ) (t : List Message) → all isTaken t ≡ true → all isTaken (drop k t) ≡ true
 taken-drop zero t h = h
 taken-drop (suc k) [] h = h
-taken-drop (suc k) (x ∷ t) h = taken-drop k t (rest-taken x t h)
+taken-drop (suc k) (x ∷ t) h = taken-drop k t (others-take x t h)
 
 copies-first : {B : Type 0} (n k : ℕ) (x : B) → k ≤ n → replicate n x ≡ replicate k x ++ replicate (n - k) x
 copies-first n k x h =
     let e : n ≡ k + (n - k) = omega arith in
     ap (λ (m : ℕ). replicate m x) e ∙ sym (replicate-append-replicate k (n - k) x)
 
-record AtMost (z : Sizes) : Type 0 where
-  proposers : z .proposers ≤ 8
-  acceptors : z .acceptors ≤ 7
-  learners : z .learners ≤ 8
-  slots : z .slots ≤ 512
-
-at-most : (z : Sizes) → sizesInRange z ≡ true → AtMost z
-unfolding sizesInRange mostAcceptors
-at-most z h = record {
-  proposers = search (and-l, and-r, leb-true) depth 9;
-  acceptors = search (and-l, and-r, leb-true) depth 9;
-  learners = search (and-l, and-r, leb-true) depth 9;
-  slots = search (and-l, and-r, leb-true) depth 9;
-}
-
 -- 8 proposers, 7 acceptors and 8 learners, all fresh, and n slots, of which the first M are free and the others hold a message x
 most-fresh-first : (z : Sizes) (n : ℕ) (x : Message) → isTaken x ≡ true → sizesInRange z ≡ true
     → FreshFirst z (replicate 8 freshProposer) (replicate 7 freshAcceptor) (replicate 8 freshLearner) (replicate (z .slots) freeSlot ++ drop (z .slots) (replicate n x))
 unfolding fresh
 most-fresh-first z n x tk h =
-    let most = at-most z h in
+    let most = bounds z h in
     record {
       moreProposers = replicate (8 - z .proposers) freshProposer;
       moreAcceptors = replicate (7 - z .acceptors) freshAcceptor;
       moreLearners = replicate (8 - z .learners) freshLearner;
       moreSlots = drop (z .slots) (replicate n x);
-      proposers = copies-first 8 (z .proposers) freshProposer (most .proposers);
-      acceptors = copies-first 7 (z .acceptors) freshAcceptor (most .acceptors);
-      learners = copies-first 8 (z .learners) freshLearner (most .learners);
+      proposers = copies-first 8 (z .proposers) freshProposer (most .few-proposers);
+      acceptors = copies-first 7 (z .acceptors) freshAcceptor (most .few-acceptors);
+      learners = copies-first 8 (z .learners) freshLearner (most .few-learners);
       slots = refl;
       taken = taken-drop (z .slots) (replicate n x) (taken-copies x tk n);
     }
@@ -293,7 +275,7 @@ most-fresh-first z n x tk h =
 
 module _ (z : Sizes) (ns : List ℕ) (n : ℕ) (log : List ℕ) where
   slots-by : (u v : Bool) → sizesInRange z ≡ u → turnsOf (wholeNo u v) (z .slots) ≤ 512
-  slots-by true true h = at-most z h .slots
+  slots-by true true h = bounds z h .few-slots
   slots-by true false h = omega arith
   slots-by false v h = omega arith
 

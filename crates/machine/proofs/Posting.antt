@@ -4,11 +4,12 @@ use Prim.Native.Nat.{ℕ, suc, _+_, _-_, _<_, _≤_}
 use native.Mathlib.Nat.{not-suc-le-zero}
 use native.Mathlib.Omega.{arith}
 use native.Mathlib.Numerals.{add-one}
-use mathlib.Core.Bool.{Bool, true, false, not, _&&_}
+use mathlib.Core.Bool.{Bool, true, false, not}
 use mathlib.Core.List.{List, [], _∷_, map}
 use lib.Dec.{T as Holds}
 use lib.ListN.{length, set, drop}
 use Rattle.choice.specs.Choice.{if_then_else_}
+use Rattle.choice.proofs.Tests.{and-l, and-r}
 use Rattle.model.specs.Table.{isFree, freeSlots, place, post, from}
 use Rattle.model.specs.Ranges.{all}
 use Rattle.model.specs.declared.Message.{Message}
@@ -117,19 +118,11 @@ none-sent : (s : Send) → itemsFrom s 0 (s .count - 0) ≡ itemsOf s
 unfolding itemsOf
 none-sent s = ap (itemsFrom s 0) (all-left (s .count))
 
-and-l : (t u : Bool) → (t && u) ≡ true → Holds t
-and-l true u e = tt
-and-l false u e = subst Holds (sym e) tt
-
-and-r : (t u : Bool) → (t && u) ≡ true → u ≡ true
-and-r true u e = e
-and-r false u e = absurd (subst Holds (sym e) tt)
-
 first-takes : (m : Message) (ms : List Message) → all isTaken (m ∷ ms) ≡ true → Holds (isTaken m)
 unfolding all
-first-takes m ms e = and-l (isTaken m) (all isTaken ms) e
+first-takes m ms e = subst Holds (sym (and-l (isTaken m) (all isTaken ms) e)) tt
 
-others-take : (m : Message) (ms : List Message) → all isTaken (m ∷ ms) ≡ true → all isTaken ms ≡ true
+pub others-take : (m : Message) (ms : List Message) → all isTaken (m ∷ ms) ≡ true → all isTaken ms ≡ true
 unfolding all
 others-take m ms e = and-r (isTaken m) (all isTaken ms) e
 

@@ -21,7 +21,7 @@ use Rattle.decisions.specs.declared.decide.Change.{Change}
 use Rattle.decisions.specs.Sending.{isTaken, lacking}
 use Rattle.decisions.specs.Change.{unchanged, changeOf, slotAfter}
 use Rattle.decisions.specs.Refusals.{testNo}
-use Rattle.decisions.proofs.Bounds.{bounds}
+use Rattle.sizes.proofs.SizeLaws.{bounds}
 use Rattle.decisions.proofs.Sendable.{Sendable, silent, sendable}
 use Rattle.machine.specs.declared.step.Decision.{Decision}
 use Rattle.machine.specs.Slots.{Ready}

@@ -14,7 +14,7 @@ use Rattle.choice.specs.Choice.{if_then_else_}
 use Rattle.sizes.specs.declared.Sizes.{Sizes}
 use Rattle.model.specs.Records.{State}
 use Rattle.model.specs.Table.{from}
-use Rattle.model.specs.Tests.{_unless_, _⨾_, ok}
+use Rattle.choice.specs.Tests.{_unless_, _⨾_, ok}
 use Rattle.model.specs.Ranges.{recordsInRange}
 use Rattle.model.specs.Step.{step, run, answers}
 use Rattle.model.specs.declared.Proposer.{Proposer}
@@ -23,7 +23,7 @@ use Rattle.model.specs.declared.Learner.{Learner}
 use Rattle.model.specs.declared.Message.{Message}
 use Rattle.model.specs.declared.Event.{Event}
 use Rattle.model.specs.declared.Answer.{Answer}
-use Rattle.model.proofs.Cases.{and-l, and-r}
+use Rattle.choice.proofs.Tests.{and-l, and-r}
 use Rattle.model.proofs.InRange.{test-ranges, sizes-in-range, step-in-range}
 use Rattle.machine.specs.Stepping.{Fits, stepOf}
 use Rattle.machine.specs.Running.{eventOf, eventsIn, saidNo, saidSet, noted, Ran, onward, ranTo, driven, Drives, timesFrom, timesOf, Repeats}

@@ -12,7 +12,7 @@ use Rattle.model.specs.Table.{isFree, freeSlots}
 use Rattle.model.specs.declared.Message.{Message}
 use Rattle.decisions.specs.Sending.{isTaken, lacking}
 use Rattle.machine.specs.Slots.{leftAfter, searching, lowest, lowestFrom, FreeFrom}
-use Rattle.machine.proofs.Turns.{drop-next}
+use Rattle.machine.proofs.WalkedLoops.{drop-next}
 
 -- ---- the search for room
 

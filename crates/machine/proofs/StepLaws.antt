@@ -10,7 +10,7 @@ use borrow.Author.Tests.{lt-ltb, leb-true, leb-false, eq-eqb, ne-eqb}
 use Rattle.choice.specs.Choice.{if_then_else_}
 use Rattle.sizes.specs.declared.Sizes.{Sizes}
 use Rattle.model.specs.Records.{State, freeSlot}
-use Rattle.model.specs.Tests.{_unless_, _⨾_, refusal, ok}
+use Rattle.choice.specs.Tests.{_unless_, _⨾_, refusal, ok}
 use Rattle.model.specs.Table.{freeSlots, post}
 use Rattle.model.specs.Ranges.{recordsInRange}
 use Rattle.model.specs.Events.{codeOf, Effect, hasRoom}
@@ -28,7 +28,7 @@ use Rattle.decisions.specs.Sending.{isTaken, itemsOf, lacking}
 use Rattle.decisions.specs.Change.{changeOf, learnerAfter, slotAfter, answerOf}
 use Rattle.decisions.specs.Refusals.{testNo}
 use Rattle.decisions.proofs.Sendable.{sendable}
-use Rattle.decisions.proofs.Bounds.{bounds}
+use Rattle.sizes.proofs.SizeLaws.{bounds}
 use Rattle.decisions.proofs.Items.{items-silence, items-count}
 use Rattle.machine.specs.declared.step.Decision.{Decision}
 use Rattle.machine.specs.Stepping.{within, partyOf, needOf, decideOf, refusedOf, finishOf, replyOf, Left, theMessage, theProposer, theAcceptor, theLearner, stepOf}

@@ -40,9 +40,9 @@ use denote.Triple.Entry.{Vals, onEntry}
 use denote.Triple.Spec.{Meets}
 use denote.Triple.Walked.{says, needs, Stays, stay-none, stay-slice, walkOf, goes-none, goes-slice, Walks, ends-at, walked, walk-meets}
 use denote.Exit.{yes, unchanged}
-use Rattle.machine.proofs.LentCalls.{lending}
+use Rattle.machine.proofs.CallsLending.{lending}
 use Rattle.machine.proofs.Unchanged.{last, silent}
-use Rattle.machine.proofs.Turns.{fits-place}
+use Rattle.machine.proofs.WalkedLoops.{fits-place}
 
 abbrev word : Ty
 word = tyInt w64

@@ -50,9 +50,9 @@ use denote.Triple.Walked.{says, Stays, stay-none, stay-none-slice, walkOf, goes-
 use Rattle.choice.proofs.both as both
 use Rattle.choice.proofs.both.Symbol.{name as #both}
 use Rattle.model.specs.Ranges.{all}
-use Rattle.machine.proofs.Called.{by-value, ends, calls-value}
-use Rattle.machine.proofs.LentCalls.{sharing}
-use Rattle.machine.proofs.Turns.{tests, drop-next, Nearer, Nearer-wf, fits-place, fits-next, falls}
+use Rattle.machine.proofs.CallsByValue.{by-value, ends, calls-value}
+use Rattle.machine.proofs.CallsLending.{sharing}
+use Rattle.machine.proofs.WalkedLoops.{tests, drop-next, Nearer, Nearer-wf, fits-place, fits-next, falls}
 use Rattle.machine.proofs.Unchanged.{last, silent}
 
 -- ---- what a turn keeps: what is found so far, and what is still to be tested

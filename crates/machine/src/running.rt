@@ -2,7 +2,7 @@
 ghost use mathlib.Core.Path.{_≡_};
 ghost use Prim.Native.Nat.{_+_, _*_, _<_};
 ghost use lib.ListN.{length};
-ghost use Rattle.machine.specs.Running.{eventOf, saidNo, saidSet, noted, driven, Drives, untouched, timesOf, Repeats};
+ghost use Rattle.machine.specs.Running.{eventOf, saidNo, saidSet, noted, driven, Drives, timesOf, Repeats};
 use crate::step::step;
 use model::Acceptor;
 use model::Answer;

@@ -23,7 +23,7 @@ use Rattle.model.specs.Events.{Code, receive, deliver, drop, duplicate, 
 use Rattle.model.specs.Ranges.{fieldsInRange, messageInRange}
 use Rattle.model.specs.Step.{stepped, stepNo, step, sent, run, answers}
 use Rattle.model.specs.Safety.{moment, Given, learnt, decided, Said, tellsLearnt, tellsDecided}
-use Rattle.model.proofs.Cases.{if-ind, and-l}
+use Rattle.choice.proofs.Tests.{if-ind, and-l}
 use Rattle.model.proofs.Lists.{All, none, also}
 use Rattle.model.proofs.Steps.{does, decide-passed, ok-ranges, ok-tests}
 use Rattle.model.proofs.States.{Holds}

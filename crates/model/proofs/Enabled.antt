@@ -6,7 +6,7 @@ use native.Mathlib.Omega.{arith}
 use lib.Dec.{eqb, ltb}
 use borrow.Author.Tests.{ltb-true, eq-eqb, ne-eqb}
 use Rattle.model.specs.Rules.{greatestNumber}
-use Rattle.model.specs.Tests.{_unless_, _⨾_, ok}
+use Rattle.choice.specs.Tests.{_unless_, _⨾_, ok}
 
 -- a refusal by the first two tests, whatever follows them
 pub refused : (a e : Bool) (rest : ℕ) → ((5 unless a ⨾ 6 unless e ⨾ ok) ≡ 0 → ⊥) → (5 unless a ⨾ 6 unless e ⨾ ok) ≡ (5 unless a ⨾ 6 unless e ⨾ rest)

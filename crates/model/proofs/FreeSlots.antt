@@ -15,7 +15,7 @@ use Rattle.model.specs.Rules.{isCurrent, accepts}
 use Rattle.model.specs.Table.{isFree, freeSlots, place, post, Announcement, Proposal, Internal}
 use Rattle.model.specs.Events.{Code, receive, deliver, drop, duplicate, propose, refine, decide, crash, noCode, codeOf, Effect, effect, delivery, proposes, tests}
 use Rattle.model.specs.Step.{stepNo, step}
-use Rattle.model.proofs.Cases.{if-ind, test-passed, rest-passed, rest-unrefused}
+use Rattle.choice.proofs.Tests.{if-ind, test-passed, rest-passed, rest-unrefused}
 use Rattle.model.proofs.Lists.{All, none, also, map-all, every-one-below, every-other-below}
 use Rattle.model.proofs.Steps.{does, ok-tests, ok-step}
 

@@ -20,12 +20,12 @@ use Rattle.model.specs.Events.{Code, receive, deliver, drop, duplicate, 
 use Rattle.model.specs.Ranges.{proposerInRange, acceptorInRange, learnerInRange, fieldsInRange, messageInRange, lengthsInRange, recordsInRange}
 use Rattle.model.specs.Step.{step, run}
 use Rattle.model.specs.Safety.{moment, Given, learnt, decided}
-use Rattle.model.proofs.Cases.{if-ind, and-l, and-r, and-i}
+use Rattle.choice.proofs.Tests.{if-ind, and-l, and-r, and-i}
 use Rattle.model.proofs.Lists.{none, also, map-all, every-one-below, every-other-below}
 use Rattle.model.proofs.RuleLaws.{propose-number, refine-number}
 use Rattle.model.proofs.Steps.{receive-passed, propose-passed, refine-passed, ok-tests}
 use Rattle.model.proofs.States.{Facts, Holds, put-proposer, put-acceptor, put-learner, put-freeing, Done, quiet-done, step-holds, fresh-holds}
-use Rattle.model.proofs.RuleRanges.{parts, all-at, all-places, buffering-range, acknowledging-range, rejecting-range, proposing-range, refining-range, deciding-range, crashed-proposer-range, fresh-proposer-range, proposed-range, decided-range, learnt-range, proposing-number, refining-number, accepting-range, refusing-range, crashed-acceptor-range, fresh-acceptor-range, listening-range, crashed-learner-range, fresh-learner-range}
+use Rattle.model.proofs.RuleRanges.{parts, all-at, all-places, buffering-range, acknowledging-range, rejecting-range, proposing-range, refining-range, deciding-range, crashed-proposer-range, fresh-proposer-range, proposed-range, decided-range, learnt-range, proposing-number, refining-number, accepting-range, gaining-range, crashed-acceptor-range, fresh-acceptor-range, listening-range, crashed-learner-range, fresh-learner-range}
 
 -- every field of every record within its range
 abbrev pub ranges : Sizes → Facts
@@ -103,7 +103,7 @@ module _ {z : Sizes} {s : State} (x : Holds (ranges z) z s) where
         sends = also (search parts depth 12)
             (map-all (ranges z .slot) (Announcement (m .proposer .0) (m .addressee) (m .number) (m .set)) (λ l h. search (parts, lt-ltb) depth 12) (every-one-below (z .learners)));
       })
-      (λ e. let both = refusing-range z q (m .set) (x .acceptors (m .addressee)) v in record {
+      (λ e. let both = gaining-range z q (m .set) (x .acceptors (m .addressee)) v in record {
         left = put-acceptor x (m .addressee) _ both;
         sends = also (search parts depth 12) none;
       })

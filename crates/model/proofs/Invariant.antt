@@ -19,8 +19,8 @@ use Rattle.model.specs.declared.Heard.{Heard}
 use Rattle.model.specs.declared.Learner.{Learner}
 use Rattle.model.specs.declared.Message.{Message}
 use Rattle.model.specs.Records.{State, Kind, free, internal, proposal, acknowledgement, rejection, announcement, noKind, kindOf, unheard, freeSlot, heardOf, slotOf}
-use Rattle.model.specs.Rules.{buffering, acknowledging, rejecting, proposing, refining, decideNo, deciding, crashedProposer, accepting, refusing, crashedAcceptor, hearing, learns, listening, crashedLearner}
-use Rattle.model.proofs.Cases.{if-ind}
+use Rattle.model.specs.Rules.{buffering, acknowledging, rejecting, proposing, refining, decideNo, deciding, crashedProposer, accepting, gaining, crashedAcceptor, hearing, learns, listening, crashedLearner}
+use Rattle.choice.proofs.Tests.{if-ind}
 use Rattle.model.proofs.Lists.{set-each}
 use Rattle.model.proofs.States.{Facts, Holds}
 use Rattle.model.proofs.RuleLaws.{decide-majority, newlyHeard, learns-majority, listening-learnt, listening-heard}
@@ -221,9 +221,9 @@ module _ {K : Known} (q : Acceptor) {v : Scans} (r : AllReceived K v) where
   unfolding accepting
   accepting-inv = r
 
-  pub refusing-inv : AllReceived K (q .accepted) → AllReceived K (refusing q v .accepted)
-  unfolding refusing
-  refusing-inv x = search received-∪
+  pub gaining-inv : AllReceived K (q .accepted) → AllReceived K (gaining q v .accepted)
+  unfolding gaining
+  gaining-inv x = search received-∪
 
 pub crashed-acceptor-inv : {K : Known} (q : Acceptor) → AllReceived K (q .accepted) → AllReceived K (crashedAcceptor q .accepted)
 unfolding crashedAcceptor

@@ -16,12 +16,12 @@ use Rattle.model.specs.Table.{Internal, Proposal, Announcement}
 use Rattle.model.specs.Events.{Code, receive, deliver, drop, duplicate, propose, refine, decide, crash, noCode, codeOf, Effect, effect, delivery, proposes, crashed, tests}
 use Rattle.model.specs.Step.{stepNo, step}
 use Rattle.model.specs.Safety.{Stores, delivered}
-use Rattle.model.proofs.Cases.{if-ind}
+use Rattle.choice.proofs.Tests.{if-ind}
 use Rattle.model.proofs.Lists.{All, none, also, map-all, every-one-below, every-other-below}
 use Rattle.model.proofs.RuleLaws.{accepts-contained, current-number}
 use Rattle.model.proofs.Steps.{propose-passed, refine-passed, decide-passed, ok-tests}
 use Rattle.model.proofs.States.{Done, put-proposer, put-acceptor, put-learner, put-freeing, quiet-done, step-holds}
-use Rattle.model.proofs.Invariant.{Known, AllReceived, ProposerInv, Voted, Asked, Carries, MessageInv, invariant, Inv, OneSet, free-inv, received-only, buffering-inv, acknowledging-inv, rejecting-inv, accepting-inv, refusing-inv, crashed-acceptor-inv, proposing-inv, refining-inv, deciding-inv, crashed-proposer-inv, listening-inv, crashed-learner-inv}
+use Rattle.model.proofs.Invariant.{Known, AllReceived, ProposerInv, Voted, Asked, Carries, MessageInv, invariant, Inv, OneSet, free-inv, received-only, buffering-inv, acknowledging-inv, rejecting-inv, accepting-inv, gaining-inv, crashed-acceptor-inv, proposing-inv, refining-inv, deciding-inv, crashed-proposer-inv, listening-inv, crashed-learner-inv}
 
 abbrev Kept : Sizes → Known → Effect → Type 0
 Kept z K e = Done (invariant K (z .acceptors)) z e
@@ -79,7 +79,7 @@ module _ (z : Sizes) (K : Known) where
                 (map-all (MessageInv K (z .acceptors)) (Announcement (m .proposer .0) (m .addressee) (m .number) (m .set)) (λ l h. record { set = r; carries = w })
                 (every-one-below (z .learners)));
           })
-          (λ e. let both = refusing-inv (acceptorOf s (m .addressee)) r (x .acceptors (m .addressee)) in record {
+          (λ e. let both = gaining-inv (acceptorOf s (m .addressee)) r (x .acceptors (m .addressee)) in record {
             left = put-acceptor x (m .addressee) _ both;
             sends = also (record { set = both; carries = tt }) none;
           })

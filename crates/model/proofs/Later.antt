@@ -19,10 +19,10 @@ use Rattle.model.specs.Records.{State, Kind, free, internal, proposal, a
 use Rattle.model.specs.Rules.{buffering, isCurrent, acknowledging, rejecting, proposing, refining, deciding, crashedProposer, accepts, accepting, crashedAcceptor, learns, listening, crashedLearner}
 use Rattle.model.specs.Events.{Code, receive, deliver, drop, duplicate, propose, refine, decide, crash, noCode, codeOf, Effect, effect, delivery, proposes, crashed}
 use Rattle.model.specs.Step.{step}
-use Rattle.model.proofs.Cases.{if-ind}
+use Rattle.choice.proofs.Tests.{if-ind}
 use Rattle.model.proofs.Steps.{step-ind}
 use Rattle.model.proofs.Lists.{set-rel}
-use Rattle.model.proofs.RuleLaws.{accepts-contained, accepting-takes, refusing-grows, learns-contained, listening-learnt}
+use Rattle.model.proofs.RuleLaws.{accepts-contained, accepting-takes, gaining-grows, learns-contained, listening-learnt}
 
 -- a proposer's number only grows, and with a number stays the set proposed under it
 pub record Renumbered (p q : Proposer) : Type 0 where
@@ -148,7 +148,7 @@ delivery-later z s m internal = later-proposer s (m .addressee) _ (buffering-lat
 delivery-later z s m proposal =
     if-ind (λ (e : Effect). Later s (e .left)) (accepts (acceptorOf s (m .addressee)) (m .set)) _ _
     (λ e. later-acceptor s (m .addressee) _ (accepting-later _ (m .set) e))
-    (λ e. later-acceptor s (m .addressee) _ (refusing-grows _ (m .set)))
+    (λ e. later-acceptor s (m .addressee) _ (gaining-grows _ (m .set)))
 delivery-later z s m acknowledgement =
     if-ind (λ (e : Effect). Later s (e .left)) (isCurrent (proposerOf s (m .addressee)) (m .number)) _ _
     (λ e. later-proposer s (m .addressee) _ (acknowledging-later _ (m .acceptor .0)))

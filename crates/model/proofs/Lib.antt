@@ -2,7 +2,6 @@
 pub mod Enabled
 pub mod Places
 pub mod Everywhere
-pub mod Cases
 pub mod Lists
 pub mod RuleLaws
 pub mod Steps

@@ -7,7 +7,7 @@ use lib.Dec.{eqb}
 use Rattle.model.specs.declared.Message.{Message}
 use Rattle.model.specs.Records.{freeSlot}
 use Rattle.model.specs.Table.{isFree, place, post, from, everyOne, without, everyOther}
-use Rattle.model.proofs.Cases.{if-ind}
+use Rattle.choice.proofs.Tests.{if-ind}
 
 -- ---- a list read by place, after a store
 

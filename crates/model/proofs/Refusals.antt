@@ -1,5 +1,5 @@
 -- The refusal numbers of an event are 1 to 8, and in a run from fresh never 1.
-use mathlib.Core.Path.{_≡_, refl, sym, ap, _∙_, subst}
+use mathlib.Core.Path.{_≡_, refl}
 use mathlib.Core.Bool.{Bool, true, false}
 use mathlib.Core.List.{List}
 use Prim.Native.Nat.{ℕ, zero, suc, _≤_}
@@ -8,22 +8,15 @@ use lib.Dec.{leb}
 use borrow.Author.Tests.{leb-true}
 use Rattle.sizes.specs.Sizes.{between, sizesInRange}
 use Rattle.sizes.specs.declared.Sizes.{Sizes}
-use Rattle.sets.specs.declared.LearnerId.{LearnerId}
-use Rattle.sets.specs.declared.ProposerId.{ProposerId}
-use Rattle.sets.specs.declared.scans.Scans.{Scans}
 use Rattle.model.specs.declared.Proposer.{Proposer}
-use Rattle.model.specs.declared.Message.{Message}
 use Rattle.model.specs.declared.Event.{Event}
-use Rattle.model.specs.declared.Answer.{Answer}
-use Rattle.model.specs.declared.Answer.the-variants.{Ok, Learnt, Decided, Refused}
-use Rattle.model.specs.Records.{State, Kind, free, internal, proposal, acknowledgement, rejection, announcement, noKind, kindOf, fresh, proposerOf, acceptorOf, learnerOf, slotOf, freeing}
-use Rattle.model.specs.Tests.{_unless_, refusal}
-use Rattle.model.specs.Rules.{isCurrent, proposeNo, refineNo, decideNo, accepts, learns}
-use Rattle.model.specs.Events.{Code, receive, deliver, drop, duplicate, propose, refine, decide, crash, noCode, codeOf, Effect, effect, delivery, proposes, tests}
+use Rattle.model.specs.Records.{State, fresh}
+use Rattle.choice.specs.Tests.{_unless_, refusal}
+use Rattle.model.specs.Rules.{proposeNo, refineNo, decideNo}
+use Rattle.model.specs.Events.{Code, receive, deliver, drop, duplicate, propose, refine, decide, crash, noCode, codeOf, tests}
 use Rattle.model.specs.Ranges.{recordsInRange}
-use Rattle.model.specs.Step.{Stepped, stepNo, step, run}
-use Rattle.model.proofs.Cases.{if-ind, and-l, and-r}
-use Rattle.model.proofs.Steps.{ok-step, refusal-keeps}
+use Rattle.model.specs.Step.{stepNo, run}
+use Rattle.choice.proofs.Tests.{and-l, and-r}
 use Rattle.model.proofs.InRange.{run-in-range}
 
 -- no refusal, or one of those that follow the first test
@@ -77,51 +70,6 @@ first-most false n x = omega arith
 pub refusal-most : (z : Sizes) (s : State) (e : Event) → stepNo z s e ≤ 8
 unfolding stepNo
 refusal-most z s e = first-most (recordsInRange z s) _ (tests-own z s (codeOf (e .code)) (e .a) (e .b))
-
--- what an event answers if it is not refused
-data Granted : Answer → Type 0 where
-  ok : Granted Ok
-  learnt : {l : LearnerId} {v : Scans} → Granted (Learnt l v)
-  decided : {p : ProposerId} {v : Scans} → Granted (Decided p v)
-
-abbrev grants : Effect → Type 0
-grants e = Granted (e .answer)
-
-delivery-granted : (z : Sizes) (s : State) (m : Message) (k : Kind) → grants (delivery z s m k)
-unfolding delivery
-delivery-granted z s m free = ok
-delivery-granted z s m internal = ok
-delivery-granted z s m proposal = if-ind grants (accepts (acceptorOf s (m .addressee)) (m .set)) _ _ (λ e. ok) (λ e. ok)
-delivery-granted z s m acknowledgement = if-ind grants (isCurrent (proposerOf s (m .addressee)) (m .number)) _ _ (λ e. ok) (λ e. ok)
-delivery-granted z s m rejection = if-ind grants (isCurrent (proposerOf s (m .addressee)) (m .number)) _ _ (λ e. ok) (λ e. ok)
-delivery-granted z s m announcement = if-ind Granted (learns (z .acceptors) (learnerOf s (m .addressee)) m) _ _ (λ e. learnt) (λ e. ok)
-delivery-granted z s m noKind = ok
-
-effect-granted : (z : Sizes) (s : State) (c : Code) (a b : ℕ) → grants (effect z s c a b)
-unfolding effect proposes
-effect-granted z s receive a b = ok
-effect-granted z s deliver a b = delivery-granted z (freeing s a) (slotOf s a) (kindOf (slotOf s a .kind))
-effect-granted z s drop a b = ok
-effect-granted z s duplicate a b = ok
-effect-granted z s propose a b = ok
-effect-granted z s refine a b = ok
-effect-granted z s decide a b = decided
-effect-granted z s crash a b = ok
-effect-granted z s noCode a b = ok
-
-granted-not-refused : {n : ℕ} → Granted (Refused n) → ⊥
-granted-not-refused = elim [ ]
-
--- an answer `Refused n` gives the event's refusal, and n is 1 to 8
-pub refused-number : (z : Sizes) (s : State) (e : Event) (n : ℕ) → step z s e .answer ≡ Refused n → (stepNo z s e ≡ n) × (1 ≤ n) × (n ≤ 8)
-refused-number z s e n h = by (stepNo z s e) refl
-  where
-    by : (k : ℕ) → stepNo z s e ≡ k → (stepNo z s e ≡ n) × (1 ≤ n) × (n ≤ 8)
-    by zero q = absurd (granted-not-refused (subst Granted (sym (ap (λ (t : Stepped). t .answer) (ok-step z s e q)) ∙ h) (effect-granted z s (codeOf (e .code)) (e .a) (e .b))))
-    by (suc k) q =
-        let r : Refused (suc k) ≡ Refused n = sym (ap (λ (t : Stepped). t .answer) (refusal-keeps z s e k q)) ∙ h in
-        let i : suc k ≡ n = cc in
-        omega (arith, refusal-most z s e)
 
 -- ---- never 1 in a run from fresh
 

@@ -15,8 +15,8 @@ use Rattle.model.specs.declared.Heard.{Heard}
 use Rattle.model.specs.declared.Learner.{Learner}
 use Rattle.model.specs.declared.Message.{Message}
 use Rattle.model.specs.Records.{heardOf}
-use Rattle.model.specs.Rules.{greatestNumber, isCurrent, proposeNo, refineNo, mayDecide, decideNo, accepts, accepting, refusing, hearing, learns, holding, learning, listening}
-use Rattle.model.proofs.Cases.{and-l, and-r, test-passed, rest-passed}
+use Rattle.model.specs.Rules.{greatestNumber, isCurrent, proposeNo, refineNo, mayDecide, decideNo, accepts, accepting, gaining, hearing, learns, holding, learning, listening}
+use Rattle.choice.proofs.Tests.{and-l, and-r, test-passed, rest-passed}
 
 -- ---- an acceptor
 
@@ -32,9 +32,9 @@ pub accepting-takes : (q : Acceptor) (v : Scans) → accepting q v .accepted ≡
 unfolding accepting
 accepting-takes q v = refl
 
-pub refusing-grows : (q : Acceptor) (v : Scans) → q .accepted ⊆ refusing q v .accepted
-unfolding refusing
-refusing-grows q v = search ⊆-left
+pub gaining-grows : (q : Acceptor) (v : Scans) → q .accepted ⊆ gaining q v .accepted
+unfolding gaining
+gaining-grows q v = search ⊆-left
 
 -- ---- a proposer
 

@@ -20,9 +20,9 @@ use Rattle.model.specs.declared.Heard.{Heard}
 use Rattle.model.specs.declared.Learner.{Learner}
 use Rattle.model.specs.declared.Message.{Message}
 use Rattle.model.specs.Records.{announcement, heardOf, freshProposer, freshAcceptor, freshLearner, unheard}
-use Rattle.model.specs.Rules.{greatestNumber, buffering, acknowledging, rejecting, proposing, refining, deciding, crashedProposer, accepting, refusing, crashedAcceptor, hearing, learns, listening, crashedLearner}
+use Rattle.model.specs.Rules.{greatestNumber, buffering, acknowledging, rejecting, proposing, refining, deciding, crashedProposer, accepting, gaining, crashedAcceptor, hearing, learns, listening, crashedLearner}
 use Rattle.model.specs.Ranges.{all, proposerInRange, acceptorInRange, heardInRange, learnerInRange, fieldsInRange}
-use Rattle.model.proofs.Cases.{if-ind, and-l, and-r, and-i}
+use Rattle.choice.proofs.Tests.{if-ind, and-l, and-r, and-i}
 use Rattle.model.proofs.RuleLaws.{newlyHeard, listening-learnt, listening-heard}
 
 pub or-r : (a b : Bool) → b ≡ true → (a || b) ≡ true
@@ -126,9 +126,9 @@ module _ (z : Sizes) (q : Acceptor) where
   unfolding acceptorInRange accepting
   accepting-range v h = h
 
-  pub refusing-range : (v : Scans) → acceptorInRange z q ≡ true → fits v (z .scans) ≡ true → acceptorInRange z (refusing q v) ≡ true
-  unfolding acceptorInRange refusing
-  refusing-range v x h = search parts
+  pub gaining-range : (v : Scans) → acceptorInRange z q ≡ true → fits v (z .scans) ≡ true → acceptorInRange z (gaining q v) ≡ true
+  unfolding acceptorInRange gaining
+  gaining-range v x h = search parts
 
   pub crashed-acceptor-range : acceptorInRange z q ≡ true → acceptorInRange z (crashedAcceptor q) ≡ true
   unfolding acceptorInRange crashedAcceptor

@@ -22,7 +22,7 @@ use Rattle.model.specs.Rules.{accepts}
 use Rattle.model.specs.Events.{Code, deliver, codeOf, Effect, effect, delivery}
 use Rattle.model.specs.Step.{Stepped, stepNo, step, sent}
 use Rattle.model.specs.Safety.{nth, moment, Given, learnt, decided, Stores, delivered, Accepts, Received, Accepted, MostAccepted, Safe}
-use Rattle.model.proofs.Cases.{if-ind}
+use Rattle.choice.proofs.Tests.{if-ind}
 use Rattle.model.proofs.Lists.{replicate-all}
 use Rattle.model.proofs.RuleLaws.{contained-accepts, accepting-takes}
 use Rattle.model.proofs.Steps.{does, ok-step}

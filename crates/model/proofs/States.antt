@@ -13,7 +13,7 @@ use Rattle.model.specs.Records.{State, fresh, freshProposer, freshAccept
 use Rattle.model.specs.Table.{isFree, place, post}
 use Rattle.model.specs.Events.{Effect, quiet}
 use Rattle.model.specs.Step.{stepNo, step, sent}
-use Rattle.model.proofs.Cases.{if-ind}
+use Rattle.choice.proofs.Tests.{if-ind}
 use Rattle.model.proofs.Lists.{set-all, replicate-all, All, none, post-all}
 use Rattle.model.proofs.Steps.{does, step-ind}
 

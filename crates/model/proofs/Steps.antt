@@ -11,7 +11,7 @@ use Rattle.model.specs.Rules.{proposeNo, refineNo, decideNo}
 use Rattle.model.specs.Events.{receive, propose, refine, decide, codeOf, Effect, effect, tests}
 use Rattle.model.specs.Ranges.{recordsInRange}
 use Rattle.model.specs.Step.{stepped, stepNo, step, sent}
-use Rattle.model.proofs.Cases.{and-l, and-r, test-passed, rest-passed, no-refusal}
+use Rattle.choice.proofs.Tests.{and-l, and-r, test-passed, rest-passed, no-refusal}
 
 -- what the event e, meeting the state s, does if it is not refused
 abbrev pub does : Sizes → State → Event → Effect

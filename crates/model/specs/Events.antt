@@ -10,10 +10,10 @@ use Rattle.sets.specs.Scans.{only}
 use Rattle.model.specs.declared.Proposer.{Proposer}
 use Rattle.model.specs.declared.Message.{Message}
 use Rattle.model.specs.declared.Answer.{Answer}
-use Rattle.model.specs.declared.Answer.the-variants.{Ok, Learnt, Decided, Refused}
+use Rattle.model.specs.declared.Answer.the-variants.{Ok, Learnt, Decided}
 use Rattle.model.specs.Records.{State, Kind, free, internal, proposal, acknowledgement, rejection, announcement, noKind, kindOf, Role, aProposer, anAcceptor, aLearner, noRole, roleOf, addressed, proposerOf, acceptorOf, learnerOf, slotOf, putProposer, putAcceptor, putLearner, freeing}
-use Rattle.model.specs.Tests.{_unless_, _⨾_, refusal, ok}
-use Rattle.model.specs.Rules.{buffering, isCurrent, acknowledging, rejecting, proposeNo, proposing, refineNo, refining, decideNo, deciding, crashedProposer, accepts, accepting, refusing, crashedAcceptor, learns, listening, crashedLearner}
+use Rattle.choice.specs.Tests.{_unless_, _⨾_, refusal, ok}
+use Rattle.model.specs.Rules.{buffering, isCurrent, acknowledging, rejecting, proposeNo, proposing, refineNo, refining, decideNo, deciding, crashedProposer, accepts, accepting, gaining, crashedAcceptor, learns, listening, crashedLearner}
 use Rattle.model.specs.Table.{Internal, Proposal, Acknowledgement, Rejection, Announcement, isFree, freeSlots, everyOne, everyOther}
 
 -- ---- codes 1 to 8
@@ -50,8 +50,8 @@ delivery z s m proposal =
       answer = Ok;
     }
     else record {
-      left = putAcceptor s (m .addressee) (refusing (acceptorOf s (m .addressee)) (m .set));
-      sends = Rejection (m .addressee) (m .number) (refusing (acceptorOf s (m .addressee)) (m .set) .accepted) (m .proposer .0) ∷ [];
+      left = putAcceptor s (m .addressee) (gaining (acceptorOf s (m .addressee)) (m .set));
+      sends = Rejection (m .addressee) (m .number) (gaining (acceptorOf s (m .addressee)) (m .set) .accepted) (m .proposer .0) ∷ [];
       answer = Ok;
     }
 delivery z s m acknowledgement =

@@ -1,5 +1,4 @@
 pub mod Records
-pub mod Tests
 pub mod Rules
 pub mod Table
 pub mod Events

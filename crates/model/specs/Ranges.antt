@@ -1,7 +1,6 @@
 -- Document 01, refusal 1: the ranges of sizes, of the table and of every field of every record.
 use mathlib.Core.Bool.{Bool, true, false, not, _&&_, _||_}
 use mathlib.Core.List.{List, [], _∷_}
-use Prim.Native.Nat.{ℕ}
 use lib.Dec.{eqb, ltb, leb}
 use lib.ListN.{length, take}
 use Rattle.sets.specs.Scans.{fits, isEmpty}
@@ -44,20 +43,44 @@ heardInRange z h =
 unfoldable pub learnerInRange : Sizes → Learner → Bool
 learnerInRange z l = fits (l .learnt) (z .scans) && all (heardInRange z) (take (z .proposers) (l .heard))
 
--- a message's number 0 for kind 1 and at least 1 for kinds 2 to 5, parties that exist, unused fields 0
+-- every kind uses addressee and set; 2 also proposer and number; 3 and 4 acceptor and number; 5 proposer, acceptor and number. Parties exist, a number is at least 1, unused fields are 0
 unfoldable pub fieldsInRange : Sizes → Message → Kind → Bool
 fieldsInRange z m free =
-    eqb (m .addressee) 0 && eqb (m .proposer .0) 0 && eqb (m .acceptor .0) 0 && eqb (m .number) 0 && isEmpty (m .set)
+    eqb (m .addressee) 0
+    && eqb (m .proposer .0) 0
+    && eqb (m .acceptor .0) 0
+    && eqb (m .number) 0
+    && isEmpty (m .set)
 fieldsInRange z m internal =
-    ltb (m .addressee) (z .proposers) && eqb (m .proposer .0) 0 && eqb (m .acceptor .0) 0 && eqb (m .number) 0 && fits (m .set) (z .scans)
+    ltb (m .addressee) (z .proposers)
+    && eqb (m .proposer .0) 0
+    && eqb (m .acceptor .0) 0
+    && eqb (m .number) 0
+    && fits (m .set) (z .scans)
 fieldsInRange z m proposal =
-    ltb (m .addressee) (z .acceptors) && ltb (m .proposer .0) (z .proposers) && eqb (m .acceptor .0) 0 && between 1 greatestNumber (m .number) && fits (m .set) (z .scans)
+    ltb (m .addressee) (z .acceptors)
+    && ltb (m .proposer .0) (z .proposers)
+    && eqb (m .acceptor .0) 0
+    && between 1 greatestNumber (m .number)
+    && fits (m .set) (z .scans)
 fieldsInRange z m acknowledgement =
-    ltb (m .addressee) (z .proposers) && eqb (m .proposer .0) 0 && ltb (m .acceptor .0) (z .acceptors) && between 1 greatestNumber (m .number) && fits (m .set) (z .scans)
+    ltb (m .addressee) (z .proposers)
+    && eqb (m .proposer .0) 0
+    && ltb (m .acceptor .0) (z .acceptors)
+    && between 1 greatestNumber (m .number)
+    && fits (m .set) (z .scans)
 fieldsInRange z m rejection =
-    ltb (m .addressee) (z .proposers) && eqb (m .proposer .0) 0 && ltb (m .acceptor .0) (z .acceptors) && between 1 greatestNumber (m .number) && fits (m .set) (z .scans)
+    ltb (m .addressee) (z .proposers)
+    && eqb (m .proposer .0) 0
+    && ltb (m .acceptor .0) (z .acceptors)
+    && between 1 greatestNumber (m .number)
+    && fits (m .set) (z .scans)
 fieldsInRange z m announcement =
-    ltb (m .addressee) (z .learners) && ltb (m .proposer .0) (z .proposers) && ltb (m .acceptor .0) (z .acceptors) && between 1 greatestNumber (m .number) && fits (m .set) (z .scans)
+    ltb (m .addressee) (z .learners)
+    && ltb (m .proposer .0) (z .proposers)
+    && ltb (m .acceptor .0) (z .acceptors)
+    && between 1 greatestNumber (m .number)
+    && fits (m .set) (z .scans)
 fieldsInRange z m noKind = false
 
 unfoldable pub messageInRange : Sizes → Message → Bool

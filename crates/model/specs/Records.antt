@@ -1,5 +1,5 @@
 -- Document 01, "Records": what a run is made of, and fresh.
-use mathlib.Core.Bool.{Bool, true, false}
+use mathlib.Core.Bool.{true, false}
 use mathlib.Core.List.{List, [], _∷_}
 use Prim.Native.Nat.{ℕ}
 use lib.ListN.{getD, set, replicate}
@@ -24,14 +24,14 @@ pub record State : Type 0 where
 pub data Kind : Type 0 where
   free internal proposal acknowledgement rejection announcement noKind : Kind
 
--- 0 free, 1 internal, 2 proposal, 3 acknowledgement to a proposer, 4 rejection, 5 acknowledgement to a learner
+-- 0 free, 1 internal, 2 proposal, 3 acknowledgement to a proposer, 4 rejection, 5 acknowledgement to a learner, here an announcement
 abbrev pub kindOf : ℕ → Kind
 kindOf n = getD (free ∷ internal ∷ proposal ∷ acknowledgement ∷ rejection ∷ announcement ∷ []) n noKind
 
 pub data Role : Type 0 where
   aProposer anAcceptor aLearner noRole : Role
 
--- role 1 proposer, 2 acceptor, 3 learner
+-- of Crash: role 1 proposer, 2 acceptor, 3 learner
 abbrev pub roleOf : ℕ → Role
 roleOf n = getD (noRole ∷ aProposer ∷ anAcceptor ∷ aLearner ∷ []) n noRole
 

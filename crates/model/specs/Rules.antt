@@ -13,7 +13,7 @@ use Rattle.model.specs.declared.Heard.{Heard}
 use Rattle.model.specs.declared.Learner.{Learner}
 use Rattle.model.specs.declared.Message.{Message}
 use Rattle.model.specs.Records.{heardOf}
-use Rattle.model.specs.Tests.{_unless_, _⨾_, ok}
+use Rattle.choice.specs.Tests.{_unless_, _⨾_, ok}
 
 -- proposal numbers run to 1,000
 abbrev pub greatestNumber : ℕ
@@ -122,6 +122,7 @@ refining p = record {
   decided = p .decided;
 }
 
+-- a refusal changes nothing
 unfoldable pub afterRefine : ℕ → Proposer → Proposer
 afterRefine a p = if eqb (refineNo a p) 0 then refining p else p
 
@@ -149,9 +150,11 @@ deciding p = record {
   decided = p .proposed;
 }
 
+-- a refusal changes nothing
 unfoldable pub afterDecide : ℕ → Proposer → Proposer
 afterDecide a p = if eqb (decideNo a p) 0 then deciding p else p
 
+-- a crashed party is not alive from then on
 unfoldable pub crashedProposer : Proposer → Proposer
 crashedProposer p = record {
   alive = false;
@@ -176,13 +179,14 @@ unfoldable pub accepting : Acceptor → Scans → Acceptor
 accepting q v = record { alive = q .alive; accepted = v }
 
 -- otherwise accepted gains the set
-unfoldable pub refusing : Acceptor → Scans → Acceptor
-refusing q v = record { alive = q .alive; accepted = q .accepted ∪ v }
+unfoldable pub gaining : Acceptor → Scans → Acceptor
+gaining q v = record { alive = q .alive; accepted = q .accepted ∪ v }
 
 -- what a proposal of a set leaves
 unfoldable pub answering : Acceptor → Scans → Acceptor
-answering q v = if accepts q v then accepting q v else refusing q v
+answering q v = if accepts q v then accepting q v else gaining q v
 
+-- not alive from then on
 unfoldable pub crashedAcceptor : Acceptor → Acceptor
 crashedAcceptor q = record { alive = false; accepted = q .accepted }
 
@@ -217,5 +221,6 @@ unfoldable pub listening : ℕ → Learner → Message → Learner
 listening a l m =
     learning (holding l (m .proposer .0) (hearing (heardOf l (m .proposer .0)) m)) (learns a l m) (hearing (heardOf l (m .proposer .0)) m .set)
 
+-- not alive from then on
 unfoldable pub crashedLearner : Learner → Learner
 crashedLearner l = record { alive = false; learnt = l .learnt; heard = l .heard }

@@ -1,5 +1,4 @@
 -- One step, and a whole run.
-use mathlib.Core.Bool.{Bool, true, false}
 use mathlib.Core.List.{List, [], _∷_}
 use Prim.Native.Nat.{ℕ, zero, suc}
 use Rattle.sizes.specs.declared.Sizes.{Sizes}
@@ -7,7 +6,7 @@ use Rattle.model.specs.declared.Event.{Event}
 use Rattle.model.specs.declared.Answer.{Answer}
 use Rattle.model.specs.declared.Answer.the-variants.{Ok, Learnt, Decided, Refused}
 use Rattle.model.specs.Records.{State, putSlots}
-use Rattle.model.specs.Tests.{_unless_, _⨾_}
+use Rattle.choice.specs.Tests.{_unless_, _⨾_}
 use Rattle.model.specs.Table.{post}
 use Rattle.model.specs.Events.{codeOf, Effect, effect, tests}
 use Rattle.model.specs.Ranges.{recordsInRange}

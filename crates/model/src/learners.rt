@@ -1,7 +1,11 @@
 // The rule of a learner.
 ghost use mathlib.Core.Path.{_≡_};
 ghost use Rattle.model.specs.Records.{unheard, freshLearner, heardOf};
-ghost use Rattle.model.specs.Rules.{hearing, holding, learning, learns, listening, crashedLearner};
+ghost use mathlib.Core.Bool.{not, _&&_};
+ghost use lib.Dec.{ltb};
+ghost use Rattle.sets.specs.Acceptors.{isMajority};
+ghost use Rattle.sets.specs.Scans.{strictlyWithin};
+ghost use Rattle.model.specs.Rules.{hearing, learns, listening, crashedLearner};
 use crate::Heard;
 use crate::Learner;
 use crate::Message;
@@ -43,6 +47,18 @@ impl Heard {
         }
         self
     }
+
+    // Whether the acknowledgement makes a learner learn the set that is then held: it is not lower, the acceptors are then a majority, and learnt is strictly contained in the set.
+    fn teaches(self, m: Message, learnt: Scans, acceptors: u32) -> bool
+        ensures { λ r. ⌜ r ≡ (not (ltb (m .number) (self .number)) && isMajority (hearing self m .acceptors) acceptors && strictlyWithin learnt (hearing self m .set)) ⌝ }
+    {
+        let new = self.hear(m);
+        let newer = both(
+            !(m.number < self.number),
+            new.acceptors.is_majority_of(acceptors),
+        );
+        both(newer, learnt.is_strictly_contained_in(new.set))
+    }
 }
 
 impl Learner {
@@ -67,50 +83,35 @@ impl Learner {
         Heard::unheard()
     }
 
-    // Holds this as heard of a proposer; of one past its places, nothing.
-    fn hold(mut self, proposer: ProposerId, new: Heard) -> Learner
-        ensures { λ r. ⌜ r ≡ holding self (proposer .0) new ⌝ }
+    // Whether the acknowledgement makes it learn.
+    pub fn learns(self, m: Message, acceptors: u32) -> bool
+        ensures { λ r. ⌜ r ≡ learns acceptors self m ⌝ }
     {
-        let i = proposer.0 as usize;
-        if i < 8 {
-            self.heard[i] = new;
-            return self;
-        }
-        self
+        self.heard_of(m.proposer).teaches(m, self.learnt, acceptors)
     }
 
-    // Learnt becomes the set where it learns.
-    fn learn(mut self, learns: bool, set: Scans) -> Learner
-        ensures { λ r. ⌜ r ≡ learning self learns set ⌝ }
+    // Takes one acknowledgement, and hands the learner back. What it hears of a proposer past its places it does not hold.
+    pub fn hear(mut self, m: Message, acceptors: u32) -> Learner
+        ensures { λ r. ⌜ r ≡ listening acceptors self m ⌝ }
     {
+        let old = self.heard_of(m.proposer);
+        let new = old.hear(m);
+        let set = new.set;
+        let learns = old.teaches(m, self.learnt, acceptors);
+        let i = m.proposer.0 as usize;
+        if i < 8 {
+            self.heard[i] = new;
+            if learns {
+                self.learnt = set;
+                return self;
+            }
+            return self;
+        }
         if learns {
             self.learnt = set;
             return self;
         }
         self
-    }
-
-    // Whether the acknowledgement makes it learn: it is not lower, the acceptors are then a majority, and learnt is strictly contained in the set held.
-    pub fn learns(self, m: Message, acceptors: u32) -> bool
-        ensures { λ r. ⌜ r ≡ learns acceptors self m ⌝ }
-    {
-        let old = self.heard_of(m.proposer);
-        let new = old.hear(m);
-        let newer = both(
-            !(m.number < old.number),
-            new.acceptors.is_majority_of(acceptors),
-        );
-        both(newer, self.learnt.is_strictly_contained_in(new.set))
-    }
-
-    // Takes one acknowledgement, and hands the learner back.
-    pub fn hear(mut self, m: Message, acceptors: u32) -> Learner
-        ensures { λ r. ⌜ r ≡ listening acceptors self m ⌝ }
-    {
-        let new = self.heard_of(m.proposer).hear(m);
-        let learns = self.learns(m, acceptors);
-        self = self.hold(m.proposer, new);
-        self.learn(learns, new.set)
     }
 
     pub fn crash(mut self) -> Learner

@@ -1,7 +1,7 @@
 // The rules of a proposer.
 ghost use mathlib.Core.Path.{_≡_};
 ghost use lib.Dec.{ltb};
-ghost use Rattle.model.specs.Tests.{_unless_, _⨾_, ok};
+ghost use Rattle.choice.specs.Tests.{_unless_, _⨾_, ok};
 ghost use Rattle.model.specs.Records.{freshProposer};
 ghost use Rattle.model.specs.Rules.{greatestNumber, buffering, isCurrent, acknowledging, rejecting, mayPropose, proposeNo, afterPropose, mayRefine, refineNo, afterRefine, mayDecide, decideNo, afterDecide, crashedProposer};
 use crate::Proposer;

@@ -7,27 +7,21 @@ use Prim.Native.Nat.{ℕ, _+_, _-_, _*_, _^_, _<_, _≤_}
 use native.Mathlib.Omega.{arith}
 use lib.Dec.{eqb, lit≤}
 use lib.ListN.{length, take, drop, getD, length-drop}
-use lib.Seq.{sets, sets-eq, length-sets, length-take-le, drop-append-seam, drop-append-le, getD-drop}
+use lib.Seq.{sets, sets-eq, length-sets, length-take-le, drop-append-seam, getD-drop}
 use Rattle.numbers.specs.declared.Limit.{Limit}
 use Rattle.numbers.specs.declared.Limit.the-variants.{Schedule, Table}
 use Rattle.numbers.specs.declared.Refusal.{Refusal}
 use Rattle.numbers.specs.declared.Read.the-variants as read
-use Rattle.numbers.specs.declared.Written.{Written}
 use Rattle.numbers.specs.declared.Written.the-variants as written
-use Rattle.numbers.specs.Coding.{groupsOf, mostOf, refusedRead, groupsFrom, readNumber, formIn, form, writeAnswer, afterWrite}
+use Rattle.numbers.specs.Coding.{groupsOf, mostOf, refusedRead, groupsFrom, readNumber, formIn, form, writeAnswer, afterWrite, writtenNo}
 use Rattle.numbers.proofs.Forms.{form-in-some, form-short, form-in-bytes}
 use Rattle.numbers.proofs.Groups.{groups-few}
-use Rattle.numbers.proofs.Reading.{Reads, Found, reads, reads-form, reads-some, found-form, reads-more, reads-refusals, reads-cut, cut-reads}
+use Rattle.numbers.proofs.Reading.{Reads, Found, reads, reads-form, found-form, reads-refusals, reads-cut, cut-reads}
 use Rattle.numbers.proofs.Writes.{Answer, answers, sets-stays}
 pub use Rattle.numbers.proofs.Forms.{Bytes}
 pub use Rattle.numbers.proofs.Reading.{Cut}
 
 -- ---- forms
-
--- a form has at least one byte
-pub form-some : (v : ℕ) → 1 ≤ length (form v)
-unfolding form
-form-some v = form-in-some 9 v
 
 -- every byte of a form is below 256
 pub form-bytes : (v : ℕ) → Bytes (form v)
@@ -65,10 +59,6 @@ written-reads limit v before after h =
 
 refused-next : {r : Refusal} {n : ℕ} → written.Refused r ≡ written.Next n → ⊥
 refused-next e = let z : _≡_ {A = ℕ} 0 1 = cc in omega arith
-
-abbrev noOf : Written → ℕ
-noOf (written.Next n) = 0
-noOf (written.Refused r) = r .no
 
 -- a place n as the answer: the number is within the limit, n is past its form, and the form has been stored
 pub record Stored (limit : Limit) (v : ℕ) (d : List ℕ) (at n : ℕ) : Type 0 where
@@ -129,8 +119,8 @@ pub write-refusals : (limit : Limit) (v : ℕ) (d : List ℕ) (at : ℕ) (r : Re
 write-refusals limit v d at r e = go (answers limit v d at)
   where
     go : Answer limit v d at → ((r .no ≡ 12) × (mostOf limit < v)) ⊎ ((r .no ≡ 8) × (v ≤ mostOf limit) × (length d < at + length (form v)))
-    go (Answer.large h w) = inl (sym (ap noOf (w .answer ∙ e)), h)
-    go (Answer.narrow h l w) = inr (sym (ap noOf (w .answer ∙ e)), h, l)
+    go (Answer.large h w) = inl (sym (ap writtenNo (w .answer ∙ e)), h)
+    go (Answer.narrow h l w) = inr (sym (ap writtenNo (w .answer ∙ e)), h, l)
     go (Answer.fits h l w) = absurd (refused-next (sym (w .answer ∙ e)))
 
 -- ---- what a number that is read says of the bytes
@@ -170,14 +160,6 @@ one-form limit limit′ s t i j v n m b c e f =
     let a : n - i ≡ length (form v) = omega (arith, p .place) in
     let d : m - j ≡ length (form v) = omega (arith, q .place) in
     record { size = a ∙ sym d; bytes = rw (a, d) (p .bytes ∙ sym (q .bytes)) }
-
--- bytes after those of a number do not matter
-pub read-more : (limit : Limit) (s t : List ℕ) (at v n : ℕ) → readNumber limit s at ≡ read.Number v n → readNumber limit (s ++ t) at ≡ read.Number v n
-unfolding readNumber
-read-more limit s t at v n e =
-    let some : 0 < length s - at = rw (length-drop at s) at (reads-some (reading limit s at) v n e) in
-    let l : at ≤ length s = omega arith in
-    rw (drop-append-le at s t l) (reads-more (reading limit s at) t v n e ∙ e)
 
 -- ---- what a reader refuses
 

@@ -13,7 +13,7 @@ use Rattle.choice.specs.Choice.{if_then_else_}
 use Rattle.numbers.specs.declared.Refusal.{Refusal}
 use Rattle.numbers.specs.declared.Read.{Read}
 use Rattle.numbers.specs.declared.Read.the-variants as read
-use Rattle.numbers.specs.Coding.{refusedRead, lastGroup, groupsFrom, formIn}
+use Rattle.numbers.specs.Coding.{refusedRead, lastGroup, groupsFrom, formIn, readNo}
 use Rattle.numbers.proofs.Forms.{form-last, form-more, less}
 
 -- ---- the ways to an answer
@@ -48,11 +48,6 @@ reads (suc g) later most low weight (b ∷ bs) i = go (reads g true most (low + 
 -- a refusal is no number
 pub refused-number : {q : Refusal} {v n : ℕ} → read.Refused q ≡ read.Number v n → ⊥
 refused-number e = let z : _≡_ {A = ℕ} 0 1 = cc in omega arith
-
--- the number of a refusal
-abbrev noOf : Read → ℕ
-noOf (read.Number v n) = 0
-noOf (read.Refused q) = q .no
 
 -- ---- what is read of a form
 
@@ -162,31 +157,13 @@ found-form (more s p) zero l h v n e = absurd (omega arith)
 found-form {most} (more {later = later} {low = low} {weight = weight} {b = b} {bs = bs} {i = i} s p) (suc f) l h v n e =
     found-more f later most low weight b bs i v n s (h 0) (found-form p f (omega arith) (λ (k : ℕ). h (suc k)) v n e)
 
--- a number has a byte
-pub reads-some : {most g : ℕ} {later : Bool} {low weight : ℕ} {bs : List ℕ} {i : ℕ} {r : Read} → Reads most g later low weight bs i r → (v n : ℕ) → r ≡ read.Number v n → 0 < length bs
-reads-some late v n e = absurd (refused-number e)
-reads-some cut v n e = absurd (refused-number e)
-reads-some (bad b) v n e = absurd (refused-number e)
-reads-some (found s z m) v n e = omega arith
-reads-some (more s p) v n e = omega arith
-
--- bytes after those of a number do not matter
-pub reads-more : {most g : ℕ} {later : Bool} {low weight : ℕ} {bs : List ℕ} {i : ℕ} {r : Read} → Reads most g later low weight bs i r → (t : List ℕ) (v n : ℕ) → r ≡ read.Number v n
-    → groupsFrom g later most low weight (bs ++ t) i ≡ r
-unfolding groupsFrom lastGroup
-reads-more late t v n e = absurd (refused-number e)
-reads-more cut t v n e = absurd (refused-number e)
-reads-more (bad b) t v n e = absurd (refused-number e)
-reads-more {most} (found {low = low} {weight = weight} {b = b} s z m) t v n e = rw (lt-ltb b 128 s, z, le-ltb most (low + b * weight) m)
-reads-more (more {b = b} s p) t v n e = rw (le-ltb b 128 s) (reads-more p t v n e)
-
 -- ---- refusals
 
 -- 11 and 12 are the only refusals
 pub reads-refusals : {most g : ℕ} {later : Bool} {low weight : ℕ} {bs : List ℕ} {i : ℕ} {r : Read} → Reads most g later low weight bs i r → (q : Refusal) → r ≡ read.Refused q → (q .no ≡ 11) ⊎ (q .no ≡ 12)
-reads-refusals late q e = inr (sym (ap noOf e))
-reads-refusals cut q e = inl (sym (ap noOf e))
-reads-refusals (bad b) q e = inr (sym (ap noOf e))
+reads-refusals late q e = inr (sym (ap readNo e))
+reads-refusals cut q e = inl (sym (ap readNo e))
+reads-refusals (bad b) q e = inr (sym (ap readNo e))
 reads-refusals (found s z m) q e = absurd (refused-number (sym e))
 reads-refusals (more s p) q e = reads-refusals p q e
 
@@ -196,7 +173,7 @@ pub record Cut (g : ℕ) (left : List ℕ) : Type 0 where
   pub top : (k : ℕ) → k < length left → 128 ≤ getD left k 0
 
 twelve-eleven : refusedRead 12 ≡ refusedRead 11 → ⊥
-twelve-eleven e = let z : _≡_ {A = ℕ} 12 11 = ap noOf e in omega arith
+twelve-eleven e = let z : _≡_ {A = ℕ} 12 11 = ap readNo e in omega arith
 
 cut-more : {g b : ℕ} {bs : List ℕ} → 128 ≤ b → Cut g bs → Cut (suc g) (b ∷ bs)
 cut-more {g} {b} {bs} h c = record { few = omega arith; top = top′ }

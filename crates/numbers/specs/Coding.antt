@@ -8,7 +8,6 @@ use lib.Seq.{sets}
 use Rattle.choice.specs.Choice.{if_then_else_}
 use Rattle.numbers.specs.declared.Limit.{Limit}
 use Rattle.numbers.specs.declared.Limit.the-variants.{Schedule, Table}
-use Rattle.numbers.specs.declared.Refusal.{Refusal}
 use Rattle.numbers.specs.declared.Read.{Read}
 use Rattle.numbers.specs.declared.Read.the-variants as read
 use Rattle.numbers.specs.declared.Written.{Written}
@@ -77,3 +76,30 @@ leaves (written.Refused r) new old = old
 
 unfoldable pub afterWrite : Limit → ℕ → List ℕ → ℕ → List ℕ
 afterWrite limit v buffer at = leaves (writeAnswer limit v buffer at) (sets buffer at (form v)) buffer
+
+-- ---- an answer as numbers
+
+-- document 01's number of an answer: 0, or the refusal's
+abbrev pub readNo : Read → ℕ
+readNo (read.Number v n) = 0
+readNo (read.Refused r) = r .no
+
+-- the number that an answer gives, or what stood there before
+abbrev pub readValue : Read → ℕ → ℕ
+readValue (read.Number v n) old = v
+readValue (read.Refused r) old = old
+
+-- the place that an answer gives, or what stood there before
+abbrev pub readNext : Read → ℕ → ℕ
+readNext (read.Number v n) old = n
+readNext (read.Refused r) old = old
+
+-- document 01's number of an answer: 0, or the refusal's
+abbrev pub writtenNo : Written → ℕ
+writtenNo (written.Next n) = 0
+writtenNo (written.Refused r) = r .no
+
+-- the place that an answer gives, or what stood there before
+abbrev pub writtenNext : Written → ℕ → ℕ
+writtenNext (written.Next n) old = n
+writtenNext (written.Refused r) old = old

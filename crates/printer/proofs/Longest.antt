@@ -7,9 +7,16 @@ use Rattle.model.proofs.Lists.{All, none, also}
 use Rattle.model.specs.declared.Answer.{Answer}
 use Rattle.model.specs.declared.Answer.the-variants.{Ok, Learnt, Decided, Refused}
 use Rattle.text.proofs.DigitLaws.{decimal-short}
-use Rattle.printer.specs.Text.{lines, linesFrom, okCount, refusedCount, endLine, runText, longestText, Short}
+use Rattle.printer.specs.Text.{lines, linesFrom, okCount, refusedCount, endLine, runText, longestText}
 use Rattle.printer.proofs.Lengths.{ok-length, learnt-length, decided-length, refused-length, end-length}
 use Rattle.printer.proofs.Events.{counts}
+
+-- an answer of a run: a party below 8, a refusal below 100
+abbrev pub Short : Answer → Type 0
+Short Ok = Unit {0}
+Short (Learnt l v) = l .0 < 8
+Short (Decided p v) = p .0 < 8
+Short (Refused n) = n < 100
 
 -- the lines of an event before the 10,000th
 lines-short : (place : ℕ) (w : Answer) → place < 10000 → Short w → length (lines place w) ≤ 40

@@ -17,7 +17,7 @@ use Rattle.numbers.specs.declared.Written.{Written}
 use Rattle.numbers.specs.declared.Written.the-variants as written
 use Rattle.text.proofs.DigitLaws.{decimal-most}
 use Rattle.forms.specs.Forms.{Outcome, got, refused}
-use Rattle.schedule.specs.Schedule.{headerOf, readSchedule, readAnswer, roomAfter, afterRead}
+use Rattle.schedule.specs.Schedule.{headerOf, readSchedule, readAnswer, afterRead}
 use Rattle.schedule.specs.declared.Header.{Header}
 use Rattle.schedule.specs.declared.ScheduleRead.the-variants as schedule
 use Rattle.schedule.proofs.ScheduleLaws.{schedule-whole}
@@ -31,14 +31,14 @@ use Rattle.model.proofs.Lists.{All, none, also}
 use Rattle.model.proofs.Answers.{Named, namesNone, namesLearner, namesProposer, namesRefusal, all-named}
 use Rattle.machine.specs.Running.{eventOf, eventsIn}
 use Rattle.machine.specs.Calls.{hasNumbers, logged, logAfterWholeRun}
-use Rattle.decisions.proofs.Bounds.{bounds}
+use Rattle.sizes.proofs.SizeLaws.{bounds}
 use Rattle.machine.proofs.RunLaws.{length-from, length-answers}
-use Rattle.printer.specs.Log.{answersIn, Small}
-use Rattle.printer.specs.Text.{runText, refusedText, longestText, Short, putAnswer, afterPut}
+use Rattle.printer.specs.Log.{answersIn}
+use Rattle.printer.specs.Text.{runText, refusedText, longestText, putAnswer, afterPut}
 use Rattle.printer.specs.Printing.{textOfRun, textOfRead, text}
-use Rattle.printer.proofs.ReadBack.{read-back}
+use Rattle.printer.proofs.ReadBack.{Small, read-back}
 use Rattle.printer.proofs.Lengths.{refusal-length}
-use Rattle.printer.proofs.Longest.{longest}
+use Rattle.printer.proofs.Longest.{Short, longest}
 
 -- ---- the answers of a run are read back from its log
 
@@ -100,7 +100,7 @@ module _ (bytes room : List ℕ) (size : length room ≡ 12_288) where
     pub same : textOfRun (h .sizes) (afterRead (readSchedule bytes) room) (h .events) ≡ text bytes
 
   ran-by : (o : Outcome) → readSchedule bytes ≡ o → (h : Header) → readAnswer o room ≡ schedule.Events h → Ran h
-  unfolding readAnswer afterRead roomAfter textOfRead
+  unfolding readAnswer afterRead textOfRead
   ran-by (got vs next) e h q =
       let w = schedule-whole bytes e in
       let f = enough-room vs next e in

@@ -1,7 +1,7 @@
 -- The answers that a log says are read back from it. Assumes nothing.
 use mathlib.Core.Path.{_≡_, refl, sym, ap, _∙_}
 use mathlib.Core.List.{List, _++_, map}
-use Prim.Native.Nat.{ℕ, suc, _+_, _*_, _%_}
+use Prim.Native.Nat.{ℕ, suc, _+_, _*_, _%_, _<_, _≤_}
 use native.Mathlib.Omega.{arith}
 use lib.ListN.{length, drop, getD}
 use lib.Seq.{drop-drop, getD-drop}
@@ -12,11 +12,18 @@ use Rattle.model.specs.declared.Answer.{Answer}
 use Rattle.model.specs.declared.Answer.the-variants.{Ok, Learnt, Decided, Refused}
 use Rattle.machine.specs.Running.{saidNo, saidSet}
 use Rattle.machine.specs.Calls.{said}
-use Rattle.printer.specs.Log.{answerOf, answerAt, answersIn, Small}
+use Rattle.printer.specs.Log.{readAnswerOf, answerAt, answersIn}
+
+-- an answer that a log can say: a party below 256, a refusal from 1 to 255
+abbrev pub Small : Answer → Type 0
+Small Ok = Unit {0}
+Small (Learnt l v) = l .0 < 256
+Small (Decided p v) = p .0 < 256
+Small (Refused n) = (1 ≤ n) × (n < 256)
 
 -- one answer
-answer-back : (w : Answer) → Small w → answerOf (saidNo w) (saidSet w) ≡ w
-unfolding answerOf saidNo saidSet
+answer-back : (w : Answer) → Small w → readAnswerOf (saidNo w) (saidSet w) ≡ w
+unfolding readAnswerOf saidNo saidSet
 answer-back Ok s = refl
 answer-back (Learnt l v) s =
     let m : (256 + l .0) % 256 ≡ l .0 = omega arith in

@@ -1,6 +1,6 @@
 -- The answers of a run as they stand in its log, two numbers each.
 use mathlib.Core.List.{List, map}
-use Prim.Native.Nat.{ℕ, _+_, _*_, _%_, _<_, _≤_}
+use Prim.Native.Nat.{ℕ, _+_, _*_, _%_}
 use lib.Dec.{eqb, ltb}
 use lib.ListN.{getD}
 use Rattle.choice.specs.Choice.{if_then_else_}
@@ -9,8 +9,8 @@ use Rattle.model.specs.declared.Answer.{Answer}
 use Rattle.model.specs.declared.Answer.the-variants.{Ok, Learnt, Decided, Refused}
 
 -- 0 for ok, a refusal's number, 256 and the learner, 512 and the proposer; and the set, scan 0 the lowest bit
-unfoldable pub answerOf : ℕ → ℕ → Answer
-answerOf code set =
+unfoldable pub readAnswerOf : ℕ → ℕ → Answer
+readAnswerOf code set =
     if eqb code 0
     then Ok
     else (if ltb code 256
@@ -21,15 +21,8 @@ answerOf code set =
 
 -- answer k of a log
 abbrev pub answerAt : List ℕ → ℕ → Answer
-answerAt log k = answerOf (getD log (2 * k) 0) (getD log (2 * k + 1) 0)
+answerAt log k = readAnswerOf (getD log (2 * k) 0) (getD log (2 * k + 1) 0)
 
 -- the first n of them
 abbrev pub answersIn : List ℕ → ℕ → List Answer
 answersIn log n = map (answerAt log) (from 0 n)
-
--- an answer that a log can say: a party below 256, a refusal from 1 to 255
-abbrev pub Small : Answer → Type 0
-Small Ok = Unit {0}
-Small (Learnt l v) = l .0 < 256
-Small (Decided p v) = p .0 < 256
-Small (Refused n) = (1 ≤ n) × (n < 256)

@@ -1,6 +1,6 @@
 -- Document 01, the end of "Written forms": what the run printer prints.
 use mathlib.Core.List.{List, [], _∷_, _++_}
-use Prim.Native.Nat.{ℕ, suc, _+_, _<_}
+use Prim.Native.Nat.{ℕ, suc, _+_}
 use lib.Dec.{eqb, ltb}
 use lib.ListN.{length}
 use lib.Seq.{sets}
@@ -66,13 +66,6 @@ runText ws = linesFrom 1 ws ++ endLine ws
 -- no text of at most 4,096 events of a run is longer: 40 bytes for each, and 19 for the last line
 abbrev pub longestText : ℕ
 longestText = 163_859
-
--- an answer of a run: a party below 8, a refusal below 100
-abbrev pub Short : Answer → Type 0
-Short Ok = Unit {0}
-Short (Learnt l v) = l .0 < 8
-Short (Decided p v) = p .0 < 8
-Short (Refused n) = n < 100
 
 -- ---- a refused schedule prints only this
 

@@ -11,7 +11,7 @@ ghost use Rattle.model.specs.Step.{answerNo};
 ghost use mathlib.Core.Bool.{true};
 ghost use Rattle.sizes.specs.Sizes.{sizesInRange};
 ghost use Rattle.printer.specs.Puts.{Puts};
-ghost use Rattle.printer.specs.Log.{answerOf, answerAt, answersIn};
+ghost use Rattle.printer.specs.Log.{readAnswerOf, answerAt, answersIn};
 ghost use Rattle.printer.specs.Text.{refusedLine, setLine, lines, linesFrom, okCount, endWith, runText, refusedText, putAnswer, afterPut};
 ghost use Rattle.printer.specs.Printing.{textOfRun, text};
 use model::Answer;
@@ -25,7 +25,7 @@ use sets::scans::Scans;
 
 // What two numbers of a log say.
 fn answer_of(code: u64, set: u64) -> Answer
-    ensures { λ r. ⌜ r ≡ answerOf code set ⌝ }
+    ensures { λ r. ⌜ r ≡ readAnswerOf code set ⌝ }
 {
     if code == 0 {
         return Answer::Ok;

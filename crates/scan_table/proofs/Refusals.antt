@@ -4,17 +4,18 @@ use mathlib.Core.Bool.{Bool, true, false}
 use mathlib.Core.List.{List, [], _∷_, map}
 use mathlib.Core.Logic.{⊎-elim}
 use Prim.Native.Nat.{ℕ, zero, suc}
-use lib.Dec.{eqb, ltb}
-use lib.ListN.{length}
+use lib.Dec.{eqb, ltb, leb}
+use lib.ListN.{length, drop}
 use borrow.Author.Tests.{eqb-false}
 use Rattle.choice.specs.Choice.{if_then_else_}
+use Rattle.choice.specs.Tests.{_unless_, refusal, _⨾_, ok}
 use Rattle.numbers.specs.Coding.{mostOf, readNumber}
 use Rattle.numbers.specs.declared.Limit.{Limit}
 use Rattle.numbers.specs.declared.Refusal.{Refusal}
 use Rattle.numbers.specs.declared.Read.{Read}
 use Rattle.numbers.specs.declared.Read.the-variants as read
 use Rattle.numbers.proofs.CodingLaws.{refusals}
-use Rattle.forms.specs.Forms.{Outcome, got, refused, refusedWith, Test, testRead, prepend, andThen, row, rows, whole, rowNo, asRead}
+use Rattle.forms.specs.Forms.{Outcome, got, refused, refusedWith, Test, testRead, prepend, andThen, row, rows, whole, rowNo, rowsNo, asRead}
 use Rattle.forms.proofs.Outcomes.{refused-got}
 
 -- every refusal of a test has P
@@ -33,27 +34,24 @@ pub data All (P : ℕ → Type 0) : List Test → Type 0 where
 module _ (P : ℕ → Type 0) where
   -- ---- tests
 
-  -- a choice of a number or 0
-  pub gives-one : (n : ℕ) (t : Bool) → P n → ((if t then n else 0) ≡ 0 → ⊥) → P (if t then n else 0)
-  gives-one n true p h = p
-  gives-one n false p h = absurd (h refl)
+  -- a test with its refusal, and the tests after it
+  pub gives-then : (n : ℕ) (t : Bool) (rest : ℕ) → P n → ((rest ≡ 0 → ⊥) → P rest) → ((n unless t ⨾ rest) ≡ 0 → ⊥) → P (n unless t ⨾ rest)
+  gives-then n true rest p q h = q h
+  gives-then n false rest p q h = p
+
+  -- one test
+  pub gives-one : (n : ℕ) (t : Bool) → P n → ((n unless t ⨾ ok) ≡ 0 → ⊥) → P (n unless t ⨾ ok)
+  gives-one n t p = gives-then n t 0 p (λ h. absurd (h refl))
 
   -- the first of two refusals
-  pub gives-first : (a b : ℕ) → ((a ≡ 0 → ⊥) → P a) → ((b ≡ 0 → ⊥) → P b) → ((if eqb a 0 then b else a) ≡ 0 → ⊥) → P (if eqb a 0 then b else a)
-  gives-first a b p q h = go (eqb a 0) h
-    where
-      go : (t : Bool) → ((if t then b else a) ≡ 0 → ⊥) → P (if t then b else a)
-      go true k = q k
-      go false k = p k
+  pub gives-first : (a b : ℕ) → ((a ≡ 0 → ⊥) → P a) → ((b ≡ 0 → ⊥) → P b) → ((refusal a ⨾ b) ≡ 0 → ⊥) → P (refusal a ⨾ b)
+  gives-first zero b p q h = q h
+  gives-first (suc a) b p q h = p h
 
   -- a number that is tested as the reader would
   as-read-gives : (limit : Limit) (test : Test) → P 12 → Gives P test → Gives P (asRead limit test)
   unfolding asRead
-  as-read-gives limit test p g v h = go (ltb (mostOf limit) v) h
-    where
-      go : (t : Bool) → ((if t then 12 else test v) ≡ 0 → ⊥) → P (if t then 12 else test v)
-      go true k = p
-      go false k = g v k
+  as-read-gives limit test p g v h = gives-then 12 (leb v (mostOf limit)) (test v) p (g v) h
 
   -- a row that is tested as the reader would
   pub all-as-read : (limit : Limit) {tests : List Test} → P 12 → All P tests → All P (map (asRead limit) tests)
@@ -61,11 +59,17 @@ module _ (P : ℕ → Type 0) where
   all-as-read limit p (and {test = test} g a) = and (as-read-gives limit test p g) (all-as-read limit p a)
 
   -- the first refusal of a row's numbers
-  pub row-gives : {tests : List Test} → All P tests → (vs : List ℕ) → (rowNo tests vs ≡ 0 → ⊥) → P (rowNo tests vs)
+  row-gives : {tests : List Test} → All P tests → (vs : List ℕ) → (rowNo tests vs ≡ 0 → ⊥) → P (rowNo tests vs)
   unfolding rowNo
   row-gives ended vs h = absurd (h refl)
   row-gives (and g a) [] h = absurd (h refl)
   row-gives (and {test = test} {tests = tests} g a) (v ∷ vs) h = gives-first (test v) (rowNo tests vs) (g v) (row-gives a vs) h
+
+  -- the first refusal of rows
+  pub rows-give : {tests : List Test} → All P tests → (n : ℕ) (vs : List ℕ) → (rowsNo n tests vs ≡ 0 → ⊥) → P (rowsNo n tests vs)
+  unfolding rowsNo
+  rows-give a zero vs h = absurd (h refl)
+  rows-give {tests} a (suc n) vs h = gives-first (rowNo tests vs) (rowsNo n tests (drop (length tests) vs)) (row-gives a vs) (rows-give a n (drop (length tests) vs)) h
 
   -- ---- reading
 

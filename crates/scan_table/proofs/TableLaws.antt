@@ -1,22 +1,19 @@
 -- The laws of the scan table. Assumes nothing.
 use mathlib.Core.Path.{_≡_, refl, sym, ap, _∙_}
-use mathlib.Core.Bool.{Bool, true, false, _||_}
 use mathlib.Core.List.{List, [], _∷_, _++_, append-nil}
 use mathlib.Core.Logic.{_⊎_, inl, inr}
-use Prim.Native.Nat.{ℕ, zero, suc, _+_, _-_, _*_, _^_, _<_, _≤_}
+use Prim.Native.Nat.{ℕ, suc, _+_, _-_, _*_, _^_, _<_, _≤_}
 use native.Mathlib.Omega.{arith}
-use lib.Dec.{eqb, ltb}
+use lib.Dec.{leb}
 use lib.ListN.{length, drop, take, getD, length-append}
-use lib.Seq.{sets, sets-eq, length-sets, take-at}
+use lib.Seq.{sets, sets-eq, take-at}
 use borrow.Author.Tests.{le-ltb}
-use Rattle.choice.specs.Choice.{if_then_else_}
-use Rattle.sizes.specs.Sizes.{scansInRange}
-use Rattle.numbers.specs.Coding.{readNumber, form}
+use Rattle.sizes.specs.Sizes.{between, scansInRange}
+use Rattle.numbers.specs.Coding.{readNumber, form, writtenNo}
 use Rattle.numbers.specs.declared.Limit.{Limit}
 use Rattle.numbers.specs.declared.Limit.the-variants.{Table}
 use Rattle.numbers.specs.declared.Refusal.{Refusal}
 use Rattle.numbers.specs.declared.Read.the-variants as number
-use Rattle.numbers.specs.declared.Written.{Written}
 use Rattle.numbers.specs.declared.Written.the-variants as written
 use Rattle.numbers.proofs.Writes.{sets-stays}
 use Rattle.numbers.proofs.CodingLaws.{Bytes, written-reads}
@@ -24,11 +21,11 @@ use Rattle.forms.specs.Forms.{Outcome, got, refused, Test, prepend, row, rows, 
 use Rattle.forms.proofs.Outcomes.{times, rows-row, times-length, rows-no-row, cons-row-no}
 use Rattle.forms.proofs.FormLaws.{Run, none, one, row-run, rows-reads, rows-forms, stands-one, stands-append, stands-whole}
 use Rattle.scan_table.specs.declared.TableRead.the-variants as table
-use Rattle.scan_table.specs.Table.{sizeNo, tagNo, shelfNo, deviceNo, timeNo, scanTests, records, wholeTable, writtenTests, recordsNo, fieldsOf, scanAt, readTable, checkAnswer, readAnswer, afterRead, scansIn, tableNo, tableForm, writeAnswer, afterWrite}
-use Rattle.scan_table.proofs.Testing.{each-scan, table-passes, passes-rows, rows-pass}
+use Rattle.scan_table.specs.Table.{sizeNo, tagNo, shelfNo, deviceNo, timeNo, scanTests, records, wholeTable, writtenTests, fieldsOf, scanAt, readTable, checkAnswer, readAnswer, afterRead, scansIn, tableNo, tableForm, writeAnswer, afterWrite}
+use Rattle.scan_table.proofs.Testing.{each-scan, table-passes, rows-pass}
 use Rattle.scan_table.proofs.Tables as read
 use Rattle.scan_table.proofs.Tables.{table-got, table-sized}
-use Rattle.scan_table.proofs.Refusals.{All, ended, and, Refuses, gives-one, gives-first, all-as-read, row-gives, prepend-refuses, row-refuses, rows-refuses, whole-refuses}
+use Rattle.scan_table.proofs.Refusals.{All, ended, and, Refuses, gives-then, gives-one, all-as-read, rows-give, prepend-refuses, row-refuses, rows-refuses, whole-refuses}
 use Rattle.scan_table.proofs.Writing as write
 use Rattle.scan_table.proofs.Writing.{size-within}
 
@@ -37,7 +34,7 @@ use Rattle.scan_table.proofs.Writing.{size-within}
 -- what bytes that read as a table say: they are the form of its numbers, which a writer would not refuse, and all of them were read
 pub record OneForm (bytes vs : List ℕ) (next : ℕ) : Type 0 where
   pub written : bytes ≡ tableForm (drop 1 vs)
-  pub passes : tableNo (drop 1 vs) ≡ 0
+  pub passes : tableNo writtenTests (drop 1 vs) ≡ 0
   pub numbers : vs ≡ scansIn (drop 1 vs) ∷ drop 1 vs
   pub ends : next ≡ length bytes
 
@@ -53,7 +50,7 @@ table-one-form bytes b e =
     let n : t .scans ≡ scansIn (t .fields) = omega arith in
     rw (t .all) (record {
       written = w ∙ rw n;
-      passes = rows-pass (t .fields) (t .scans) (r .count) (t .ranged) (r .tested);
+      passes = rows-pass writtenTests (t .fields) (t .scans) (r .count) (t .ranged) (r .tested);
       numbers = rw n;
       ends = omega (arith, s .place, ap length w);
     })
@@ -61,16 +58,16 @@ table-one-form bytes b e =
 -- ---- what is written reads back
 
 -- the form of a table that a writer does not refuse reads as the table
-pub table-reads-back : (fields : List ℕ) → tableNo fields ≡ 0 → readTable (tableForm fields) ≡ got (scansIn fields ∷ fields) (length (tableForm fields))
+pub table-reads-back : (fields : List ℕ) → tableNo writtenTests fields ≡ 0 → readTable (tableForm fields) ≡ got (scansIn fields ∷ fields) (length (tableForm fields))
 unfolding tableForm forms whole prepend
 table-reads-back fields e =
     let s = scansIn fields in
     let n = length (form s) in
     let m = length (forms fields) in
-    let p = table-passes fields e in
+    let p = table-passes writtenTests fields e in
     let z : 0 + n ≡ n = omega arith in
     let a : readNumber Table (form s ++ forms fields) 0 ≡ number.Number s n = rw z at (written-reads Table s [] (forms fields) (size-within s (p .ranged))) in
-    let r = rw (append-nil (forms fields)) at (rows-reads s scanTests Table fields (p .scans) (passes-rows p) (form s) []) in
+    let r = rw (append-nil (forms fields)) at (rows-reads s scanTests Table fields (p .scans) (p .records) (form s) []) in
     table-sized (form s ++ forms fields) a (p .ranged) ∙ rw (r, length-append (form s) (forms fields), le-ltb (n + m) (n + m) (omega arith))
 
 -- ---- what was read is in range
@@ -84,7 +81,7 @@ run-passes (one {test = test} {tests = tests} {v = v} {vs = vs} e p r) =
     (ap suc (i .0), cons-row-no test tests v vs p (i .1))
 
 -- a table that was read has four numbers for each scan, and they pass
-table-tested : (bytes : List ℕ) {vs : List ℕ} {next : ℕ} → readTable bytes ≡ got vs next → (length (drop 1 vs) ≡ getD vs 0 0 * 4) × (rowsNo (getD vs 0 0) scanTests (drop 1 vs) ≡ 0)
+pub table-tested : (bytes : List ℕ) {vs : List ℕ} {next : ℕ} → readTable bytes ≡ got vs next → (length (drop 1 vs) ≡ getD vs 0 0 * 4) × (rowsNo (getD vs 0 0) scanTests (drop 1 vs) ≡ 0)
 table-tested bytes e =
     let t = table-got bytes e in
     let s = t .scans in
@@ -101,27 +98,28 @@ table-in-range bytes {vs} e i h =
     let t = table-tested bytes e in
     let c = t .0 in
     let z : 0 + i ≡ i = omega arith in
-    rw z at (each-scan (drop 1 vs) (getD vs 0 0) 0 i (omega arith) (t .1) h)
+    rw z at (each-scan scanTests refl (drop 1 vs) (getD vs 0 0) 0 i (omega arith) (t .1) h)
 
 -- ---- refusals
 
 -- a scan's tests give 3, 10 or 12
-scan-gives : (P : ℕ → Type 0) → P 3 → P 10 → P 12 → All P scanTests
+pub scan-gives : (P : ℕ → Type 0) → P 3 → P 10 → P 12 → All P scanTests
 unfolding tagNo shelfNo deviceNo timeNo
 scan-gives P three ten twelve =
-    and (λ v. gives-one P 3 (ltb (2 ^ 32 - 1) v) three)
-    (and (λ v. gives-one P 3 (ltb 65_535 v) three)
-    (and (λ v. gives-one P 10 (eqb v 0 || ltb 255 v) ten)
-    (and (λ v. gives-one P 12 (ltb (2 ^ 48 - 1) v) twelve) ended)))
+    and (λ v. gives-one P 3 (leb v (2 ^ 32 - 1)) three)
+    (and (λ v. gives-one P 3 (leb v 65_535) three)
+    (and (λ v. gives-one P 10 (between 1 255 v) ten)
+    (and (λ v. gives-one P 12 (leb v (2 ^ 48 - 1)) twelve) ended)))
 
 -- the size's test gives 1
 size-gives : (P : ℕ → Type 0) → P 1 → All P (sizeNo ∷ [])
 unfolding sizeNo
-size-gives P o = and (λ v. go v (scansInRange v)) ended
-  where
-    go : (v : ℕ) (t : Bool) → (_≡_ {A = ℕ} (if t then 0 else 1) 0 → ⊥) → P (if t then 0 else 1)
-    go v true h = absurd (h refl)
-    go v false h = o
+size-gives P size = and (λ v. gives-one P 1 (scansInRange v) size) ended
+
+-- the first refusal of a table
+pub table-gives : (P : ℕ → Type 0) {tests : List Test} → P 1 → All P tests → (fields : List ℕ) → (tableNo tests fields ≡ 0 → ⊥) → P (tableNo tests fields)
+unfolding tableNo
+table-gives P {tests} size a fields h = gives-then P 1 (wholeTable fields) (rowsNo (scansIn fields) tests fields) size (rows-give P a (scansIn fields) fields) h
 
 -- the size, and then the scans
 records-refuses : (P : ℕ → Type 0) (bytes : List ℕ) (o : Outcome) → Refuses P o → ((n at : ℕ) → Refuses P (rows n scanTests Table bytes at)) → Refuses P (records bytes o)
@@ -151,27 +149,6 @@ table-refusals bytes r e =
 abbrev pub WriteRefusal : ℕ → Type 0
 WriteRefusal n = (n ≡ 1) ⊎ (n ≡ 3) ⊎ (n ≡ 10) ⊎ (n ≡ 12) ⊎ (n ≡ 8)
 
--- the first refusal of scans
-records-give : (P : ℕ → Type 0) → All P writtenTests → (fields : List ℕ) (n i : ℕ) → (recordsNo writtenTests n fields i ≡ 0 → ⊥) → P (recordsNo writtenTests n fields i)
-unfolding recordsNo
-records-give P a fields zero i h = absurd (h refl)
-records-give P a fields (suc n) i h =
-    let s = fieldsOf (scanAt fields i) in
-    gives-first P (rowNo writtenTests s) (recordsNo writtenTests n fields (suc i)) (row-gives P a s) (records-give P a fields n (suc i)) h
-
--- the first refusal of a table
-table-gives : (P : ℕ → Type 0) → P 1 → All P writtenTests → (fields : List ℕ) → (tableNo fields ≡ 0 → ⊥) → P (tableNo fields)
-unfolding tableNo
-table-gives P o a fields h = go (wholeTable fields) h
-  where
-    go : (t : Bool) → ((if t then recordsNo writtenTests (scansIn fields) fields 0 else 1) ≡ 0 → ⊥) → P (if t then recordsNo writtenTests (scansIn fields) fields 0 else 1)
-    go true k = records-give P a fields (scansIn fields) 0 k
-    go false k = o
-
-abbrev noOf : Written → ℕ
-noOf (written.Next n) = 0
-noOf (written.Refused r) = r .no
-
 refused-next : {r : Refusal} {n : ℕ} → written.Refused r ≡ written.Next n → ⊥
 refused-next e = let z : _≡_ {A = ℕ} 0 1 = cc in omega arith
 
@@ -187,8 +164,8 @@ module _ (fields d : List ℕ) where
       go (write.Answer.unfit h w) =
           let twelve = inr (inr (inr (inl refl))) in
           let a = all-as-read WriteRefusal Table twelve (scan-gives WriteRefusal (inr (inl refl)) (inr (inr (inl refl))) twelve) in
-          rw (sym (ap noOf (w .answer ∙ e))) (table-gives WriteRefusal (inl refl) a fields h)
-      go (write.Answer.narrow h l w) = inr (inr (inr (inr (sym (ap noOf (w .answer ∙ e))))))
+          rw (sym (ap writtenNo (w .answer ∙ e))) (table-gives WriteRefusal (inl refl) a fields h)
+      go (write.Answer.narrow h l w) = inr (inr (inr (inr (sym (ap writtenNo (w .answer ∙ e))))))
       go (write.Answer.fits h l w) = absurd (refused-next (sym (w .answer ∙ e)))
 
   -- a refusal leaves the buffer as it was
@@ -202,7 +179,7 @@ module _ (fields d : List ℕ) where
 
   -- a place n as the answer: no number is refused, n is past the form, and the form stands at the start of the buffer
   pub record Stored (n : ℕ) : Type 0 where
-    pub passes : tableNo fields ≡ 0
+    pub passes : tableNo writtenTests fields ≡ 0
     pub place : n ≡ length (tableForm fields)
     pub room : n ≤ length d
     pub buffer : afterWrite fields d ≡ sets d 0 (tableForm fields)
@@ -218,15 +195,6 @@ module _ (fields d : List ℕ) where
           let q : written.Next (length (tableForm fields)) ≡ written.Next n = w .answer ∙ e in
           let p : n ≡ length (tableForm fields) = cc in
           record { passes = h; place = p; room = omega arith; buffer = sym (w .buffer) }
-
-  -- writing keeps the length of the buffer
-  pub write-length : length (afterWrite fields d) ≡ length d
-  write-length = go (write.answers fields d)
-    where
-      go : write.Answer fields d → length (afterWrite fields d) ≡ length d
-      go (write.Answer.unfit h w) = ap length (sym (w .buffer))
-      go (write.Answer.narrow h l w) = ap length (sym (w .buffer))
-      go (write.Answer.fits h l w) = ap length (sym (w .buffer)) ∙ length-sets d 0 (tableForm fields)
 
   -- bytes from the next place on stay as they were
   pub write-stays : (n i : ℕ) → writeAnswer fields d ≡ written.Next n → n ≤ i → getD (afterWrite fields d) i 0 ≡ getD d i 0
@@ -298,27 +266,9 @@ module _ (o : Outcome) (room : List ℕ) where
           let p : n ≡ getD vs 0 0 = cc in
           record { vs = vs; next = next; accepted = h; scans = p; fits = rw p l; filled = sym (w .left) }
 
-  -- reading keeps the length of the room
-  pub read-length : length (afterRead o room) ≡ length room
-  read-length = go (read.answers o room)
-    where
-      go : read.Answer o room → length (afterRead o room) ≡ length room
-      go (read.Answer.unread q h w) = ap length (sym (w .left))
-      go (read.Answer.narrow vs next h l w) = ap length (sym (w .left))
-      go (read.Answer.stored vs next h l w) = ap length (sym (w .left)) ∙ length-sets room 0 (drop 1 vs)
-
 -- places past those of the scans stay as they were
 pub read-stays : (bytes room : List ℕ) (n i : ℕ) → readAnswer (readTable bytes) room ≡ table.Scans n → n * 4 ≤ i → getD (afterRead (readTable bytes) room) i 0 ≡ getD room i 0
 read-stays bytes room n i e h =
     let f = read-scans (readTable bytes) room n e in
     let c = table-count bytes (f .accepted) in
     rw (f .filled) (sets-stays (drop 1 (f .vs)) room 0 i (inr (omega (arith, f .scans))))
-
--- the first places hold the numbers of the scans
-pub read-fills : (bytes room : List ℕ) (n : ℕ) (e : readAnswer (readTable bytes) room ≡ table.Scans n) → take (n * 4) (afterRead (readTable bytes) room) ≡ drop 1 (read-scans (readTable bytes) room n e .vs)
-read-fills bytes room n e =
-    let f = read-scans (readTable bytes) room n e in
-    let vs = drop 1 (f .vs) in
-    let c : length vs ≡ n * 4 = omega (arith, f .scans, table-count bytes (f .accepted)) in
-    let l : 0 + length vs ≤ length room = omega (arith, f .fits) in
-    ap (take (n * 4)) (f .filled ∙ sets-eq vs room 0 l) ∙ take-at vs (drop (0 + length vs) room) (n * 4) c

@@ -9,6 +9,7 @@ use lib.ListN.{length, drop, getD}
 use lib.Seq.{sets}
 use borrow.Author.Tests.{ltb-true, ltb-false, lt-ltb, le-ltb}
 use Rattle.choice.specs.Choice.{if_then_else_}
+use Rattle.choice.proofs.Tests.{test-passed}
 use Rattle.sizes.specs.Sizes.{scansInRange}
 use Rattle.numbers.specs.Coding.{readNumber, form}
 use Rattle.numbers.specs.declared.Limit.the-variants.{Table}
@@ -20,7 +21,7 @@ use Rattle.forms.proofs.Outcomes.{refused-got, row-cons}
 use Rattle.forms.proofs.FormLaws.{Run, none, one, row-run, then-got, whole-got, numbers-of-rows, rows-forms}
 use Rattle.scan_table.specs.declared.TableRead.{TableRead}
 use Rattle.scan_table.specs.declared.TableRead.the-variants as table
-use Rattle.scan_table.specs.Table.{sizeNo, scanTests, records, readTable, checkAnswer, readAnswer, roomAfter, afterRead}
+use Rattle.scan_table.specs.Table.{sizeNo, scanTests, records, readTable, checkAnswer, readAnswer, afterRead}
 use Rattle.scan_table.specs.Steps.{endedAt}
 
 -- ---- checking
@@ -73,11 +74,7 @@ pub record TableAt (bytes vs : List ℕ) (next : ℕ) : Type 0 where
 -- a size that passes is in range
 sized : (s : ℕ) → sizeNo s ≡ 0 → scansInRange s ≡ true
 unfolding sizeNo
-sized s e = go (scansInRange s) e
-  where
-    go : (t : Bool) → _≡_ {A = ℕ} (if t then 0 else 1) 0 → t ≡ true
-    go true h = refl
-    go false h = absurd (omega arith)
+sized s e = test-passed 0 (scansInRange s) 0 e
 
 -- the size, and then the scans
 size-then : {bytes vs us : List ℕ} {at next : ℕ} → Run Table bytes (sizeNo ∷ []) 0 us at → records bytes (got us at) ≡ got vs next → length bytes ≤ next → TableAt bytes vs next
@@ -125,17 +122,17 @@ pub record Reads (o : Outcome) (room : List ℕ) (w : TableRead) (e : List ℕ) 
 module _ (room : List ℕ) where
   -- the form is refused
   pub form-refused : (r : Refusal) → Reads (refused r) room (table.Refused r) room
-  unfolding readAnswer roomAfter afterRead
+  unfolding readAnswer afterRead
   form-refused r = record { answer = refl; left = refl }
 
   -- the room is smaller than the scans
   pub room-short : (vs : List ℕ) (next : ℕ) → length room < getD vs 0 0 * 4 → Reads (got vs next) room (table.Refused (record { no = 8 })) room
-  unfolding readAnswer roomAfter afterRead
+  unfolding readAnswer afterRead
   room-short vs next h = record { answer = rw (lt-ltb _ _ h); left = rw (lt-ltb _ _ h) }
 
   -- the scans have room
   pub room-enough : (vs : List ℕ) (next : ℕ) → getD vs 0 0 * 4 ≤ length room → Reads (got vs next) room (table.Scans (getD vs 0 0)) (sets room 0 (drop 1 vs))
-  unfolding readAnswer roomAfter afterRead
+  unfolding readAnswer afterRead
   room-enough vs next h = record { answer = rw (le-ltb _ _ h); left = rw (le-ltb _ _ h) }
 
 -- the answers, each with what leads to it

@@ -19,8 +19,9 @@ use Rattle.forms.specs.Forms.{forms, writeAllAnswer, afterWriteAll}
 use Rattle.forms.proofs.WritesAll as all
 use Rattle.forms.proofs.Steps.{sets-append}
 use Rattle.forms.proofs.FormLaws.{rows-within}
-use Rattle.scan_table.specs.Table.{scanTests, scansIn, tableNo, tableForm, writeAnswer, afterWrite}
-use Rattle.scan_table.proofs.Testing.{scans-ranged, table-passes, passes-rows}
+use Rattle.scan_table.specs.Table.{scanTests, scansIn, tableNo, writtenTests, tableForm, writeAnswer, afterWrite}
+use Rattle.sizes.proofs.SizeLaws.{scans-ranged}
+use Rattle.scan_table.proofs.Testing.{table-passes}
 
 -- writing the table into d answers w and leaves e
 pub record Writes (fields d : List ℕ) (w : Written) (e : List ℕ) : Type 0 where
@@ -39,22 +40,22 @@ size-within s h = omega (arith, scans-ranged s h)
 
 module _ (fields d : List ℕ) where
   -- a number is refused
-  pub table-refused : (tableNo fields ≡ 0 → ⊥) → Writes fields d (refusedWrite (tableNo fields)) d
+  pub table-refused : (tableNo writtenTests fields ≡ 0 → ⊥) → Writes fields d (refusedWrite (tableNo writtenTests fields)) d
   unfolding writeAnswer afterWrite
-  table-refused h = record { answer = rw (ne-eqb (tableNo fields) 0 h); buffer = rw (ne-eqb (tableNo fields) 0 h) }
+  table-refused h = record { answer = rw (ne-eqb (tableNo writtenTests fields) 0 h); buffer = rw (ne-eqb (tableNo writtenTests fields) 0 h) }
 
   -- the form has no room
-  pub no-room : tableNo fields ≡ 0 → length d < length (tableForm fields) → Writes fields d (refusedWrite 8) d
+  pub no-room : tableNo writtenTests fields ≡ 0 → length d < length (tableForm fields) → Writes fields d (refusedWrite 8) d
   unfolding writeAnswer afterWrite
-  no-room e h = record { answer = rw (eq-eqb (tableNo fields) 0 e, lt-ltb _ _ h); buffer = rw (eq-eqb (tableNo fields) 0 e, lt-ltb _ _ h) }
+  no-room e h = record { answer = rw (eq-eqb (tableNo writtenTests fields) 0 e, lt-ltb _ _ h); buffer = rw (eq-eqb (tableNo writtenTests fields) 0 e, lt-ltb _ _ h) }
 
   -- the form is written
-  pub wrote : tableNo fields ≡ 0 → length (tableForm fields) ≤ length d → Writes fields d (written.Next (length (tableForm fields))) (sets d 0 (tableForm fields))
+  pub wrote : tableNo writtenTests fields ≡ 0 → length (tableForm fields) ≤ length d → Writes fields d (written.Next (length (tableForm fields))) (sets d 0 (tableForm fields))
   unfolding writeAnswer afterWrite
-  wrote e h = record { answer = rw (eq-eqb (tableNo fields) 0 e, le-ltb _ _ h); buffer = rw (eq-eqb (tableNo fields) 0 e, le-ltb _ _ h) }
+  wrote e h = record { answer = rw (eq-eqb (tableNo writtenTests fields) 0 e, le-ltb _ _ h); buffer = rw (eq-eqb (tableNo writtenTests fields) 0 e, le-ltb _ _ h) }
 
   -- the size is written, and then the numbers after it
-  pub wrote-both : tableNo fields ≡ 0 → length (tableForm fields) ≤ length d
+  pub wrote-both : tableNo writtenTests fields ≡ 0 → length (tableForm fields) ≤ length d
       → let b = one.afterWrite Table (scansIn fields) d 0 in
       let n = length (form (scansIn fields)) in
       Writes fields d (writeAllAnswer Table fields b n) (afterWriteAll Table fields b n)
@@ -64,8 +65,8 @@ module _ (fields d : List ℕ) where
       let n = length (form s) in
       let l = form-length fields in
       let z : 0 + n ≡ n = omega arith in
-      let p = table-passes fields e in
-      let r = rows-within s scanTests Table fields (p .scans) (passes-rows p) in
+      let p = table-passes writtenTests fields e in
+      let r = rows-within s scanTests Table fields (p .scans) (p .records) in
       let a = one′.wrote Table s d 0 (size-within s (p .ranged)) (omega arith) .buffer in
       let b = all.wrote Table fields (sets d 0 (form s)) n r (rw (length-sets d 0 (form s)) (omega arith)) in
       let w = wrote e h in
@@ -77,21 +78,21 @@ module _ (fields d : List ℕ) where
 
   -- the answers, each with what leads to it
   pub data Answer : Type 0 where
-    unfit : (tableNo fields ≡ 0 → ⊥) → Writes fields d (refusedWrite (tableNo fields)) d → Answer
-    narrow : tableNo fields ≡ 0 → length d < length (tableForm fields) → Writes fields d (refusedWrite 8) d → Answer
-    fits : tableNo fields ≡ 0 → length (tableForm fields) ≤ length d → Writes fields d (written.Next (length (tableForm fields))) (sets d 0 (tableForm fields)) → Answer
+    unfit : (tableNo writtenTests fields ≡ 0 → ⊥) → Writes fields d (refusedWrite (tableNo writtenTests fields)) d → Answer
+    narrow : tableNo writtenTests fields ≡ 0 → length d < length (tableForm fields) → Writes fields d (refusedWrite 8) d → Answer
+    fits : tableNo writtenTests fields ≡ 0 → length (tableForm fields) ≤ length d → Writes fields d (written.Next (length (tableForm fields))) (sets d 0 (tableForm fields)) → Answer
 
   -- every answer is one of them
   pub answers : Answer
-  answers = go (eqb (tableNo fields) 0) refl (ltb (length d) (length (tableForm fields))) refl
+  answers = go (eqb (tableNo writtenTests fields) 0) refl (ltb (length d) (length (tableForm fields))) refl
     where
-      go : (t : Bool) → eqb (tableNo fields) 0 ≡ t → (u : Bool) → ltb (length d) (length (tableForm fields)) ≡ u → Answer
-      go false e u f = let h = eqb-false (tableNo fields) 0 e in unfit h (table-refused h)
+      go : (t : Bool) → eqb (tableNo writtenTests fields) 0 ≡ t → (u : Bool) → ltb (length d) (length (tableForm fields)) ≡ u → Answer
+      go false e u f = let h = eqb-false (tableNo writtenTests fields) 0 e in unfit h (table-refused h)
       go true e true f =
-          let z = eqb-true (tableNo fields) 0 e in
+          let z = eqb-true (tableNo writtenTests fields) 0 e in
           let l = ltb-true (length d) (length (tableForm fields)) f in
           narrow z l (no-room z l)
       go true e false f =
-          let z = eqb-true (tableNo fields) 0 e in
+          let z = eqb-true (tableNo writtenTests fields) 0 e in
           let l = ltb-false (length d) (length (tableForm fields)) f in
           fits z l (wrote z l)

@@ -1,10 +1,14 @@
 // The scan table's written form: S, then for each of S scans tag, shelf, device and time.
 // In lent room a scan is four numbers in a row: tag, shelf, device, time.
 ghost use mathlib.Core.Path.{_≡_};
-ghost use lib.ListN.{getD};
+ghost use Prim.Native.Nat.{_*_, _≤_};
+ghost use lib.Dec.{leb};
+ghost use lib.ListN.{length, getD};
+ghost use Rattle.choice.specs.Tests.{_unless_, refusal, _⨾_, ok};
+ghost use Rattle.numbers.specs.Coding.{mostOf};
 ghost use Rattle.numbers.specs.declared.Limit.the-variants.{Table};
-ghost use Rattle.forms.specs.Forms.{placeOf, row, rows, rowNo};
-ghost use Rattle.scan_table.specs.Table.{tagNo, shelfNo, deviceNo, timeNo, scanTests, writtenTests, fieldsOf, scanAt, readTable, checkAnswer, readAnswer, afterRead, firstNo, recordsNo, tableNo, writeAnswer, afterWrite};
+ghost use Rattle.forms.specs.Forms.{placeOf, row, rows, rowNo, rowsNo};
+ghost use Rattle.scan_table.specs.Table.{tagNo, shelfNo, deviceNo, timeNo, scanTests, writtenTests, testsOf, fieldsOf, scanAt, tableNo, readTable, checkAnswer, readAnswer, afterRead, writeAnswer, afterWrite};
 ghost use Rattle.scan_table.specs.Steps.{readFrom, valueOf, testedWith, endedAt};
 use forms::Place;
 use numbers::Limit;
@@ -56,9 +60,16 @@ fn time_no(time: u64) -> u8
     if 281_474_976_710_655 < time { 12 } else { 0 }
 }
 
+// 12 where a number is too large for the coding.
+fn coding_no(value: u64) -> u8
+    ensures { λ r. ⌜ r ≡ (12 unless leb value (mostOf Table) ⨾ ok) ⌝ }
+{
+    if Limit::Table.most() < value { 12 } else { 0 }
+}
+
 // The first of two refusals.
 fn first_no(a: u8, b: u8) -> u8
-    ensures { λ r. ⌜ r ≡ firstNo a b ⌝ }
+    ensures { λ r. ⌜ r ≡ (refusal a ⨾ b) ⌝ }
 {
     if a == 0 { b } else { a }
 }
@@ -87,11 +98,22 @@ impl Scan {
     fn written_no(self) -> u8
         ensures { λ r. ⌜ r ≡ rowNo writtenTests (fieldsOf self) ⌝ }
     {
-        let tag = first_no(time_no(self.tag), tag_no(self.tag));
-        let shelf = first_no(time_no(self.shelf), shelf_no(self.shelf));
-        let device = first_no(time_no(self.device), device_no(self.device));
-        let time = time_no(self.time);
+        let tag = first_no(coding_no(self.tag), tag_no(self.tag));
+        let shelf = first_no(coding_no(self.shelf), shelf_no(self.shelf));
+        let device = first_no(coding_no(self.device), device_no(self.device));
+        let time = first_no(coding_no(self.time), time_no(self.time));
         first_no(tag, first_no(shelf, first_no(device, time)))
+    }
+
+    // The one or the other: `written` where the scan is to be written.
+    fn tested_no(self, written: bool) -> u8
+        ensures { λ r. ⌜ r ≡ rowNo (testsOf written) (fieldsOf self) ⌝ }
+    {
+        if written {
+            self.written_no()
+        } else {
+            self.no()
+        }
     }
 }
 
@@ -143,6 +165,37 @@ pub fn scan_at(fields: &[u64], scan: ScanId) -> Scan
         };
     }
     scan_past(fields, scan)
+}
+
+// The first refusal of the first scans of a table's numbers.
+fn scans_no(fields: &[u64], scans: u16, written: bool) -> u8
+    requires { ⌜ scans * 4 ≤ length (now fields) ⌝ }
+    ensures { λ r. ⌜ r ≡ rowsNo scans (testsOf written) (now (fields .entry)) ⌝ }
+{
+    let mut i: u16 = 0;
+    while i < scans {
+        let scan = scan_at(fields, ScanId(i));
+        let no = scan.tested_no(written);
+        if no != 0 {
+            return no;
+        }
+        i += 1;
+    }
+    0
+}
+
+// The first refusal of a table's numbers; where they are to be written, tested as the reader would.
+pub fn table_no(fields: &[u64], written: bool) -> u8
+    ensures { λ r. ⌜ r ≡ tableNo (testsOf written) (now (fields .entry)) ⌝ }
+{
+    if fields.len() % 4 != 0 {
+        return 1;
+    }
+    let scans = fields.len() / 4;
+    if !sizes::scans_in_range(scans as u64) {
+        return 1;
+    }
+    scans_no(fields, scans as u16, written)
 }
 
 // ---- reading
@@ -275,40 +328,11 @@ pub fn read_table(room: &mut [u64], bytes: &[u8]) -> TableRead
 
 // ---- writing
 
-// The first refusal of so many records, tested as the reader would.
-fn scans_no(fields: &[u64], scans: u16) -> u8
-    ensures { λ r. ⌜ r ≡ recordsNo writtenTests scans (now (fields .entry)) 0 ⌝ }
-{
-    let mut i: u16 = 0;
-    while i < scans {
-        let no = scan_at(fields, ScanId(i)).written_no();
-        if no != 0 {
-            return no;
-        }
-        i += 1;
-    }
-    0
-}
-
-// The first refusal of a table's numbers, tested as the reader would.
-fn table_no(fields: &[u64]) -> u8
-    ensures { λ r. ⌜ r ≡ tableNo (now (fields .entry)) ⌝ }
-{
-    if fields.len() % 4 != 0 {
-        return 1;
-    }
-    let scans = fields.len() / 4;
-    if !sizes::scans_in_range(scans as u64) {
-        return 1;
-    }
-    scans_no(fields, scans as u16)
-}
-
 // Writes the table of whole scans, four numbers for each. A refusal leaves the buffer as it was; so do the bytes past the text.
 pub fn write_table(buffer: &mut [u8], fields: &[u64]) -> Written
     ensures { λ r. ⌜ (r ≡ writeAnswer (now (fields .entry)) (now (buffer .entry))) × (now (buffer .exit) ≡ afterWrite (now (fields .entry)) (now (buffer .entry))) ⌝ }
 {
-    let no = table_no(fields);
+    let no = table_no(fields, true);
     if no != 0 {
         return Written::Refused(Refusal { no });
     }

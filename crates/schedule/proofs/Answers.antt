@@ -15,7 +15,7 @@ use Rattle.numbers.specs.declared.Written.the-variants as written
 use Rattle.forms.specs.Forms.{Outcome, got, refused, forms, writeAllAnswer, afterWriteAll}
 use Rattle.forms.proofs.Steps.{sets-append}
 use Rattle.forms.proofs.WritesAll as all
-use Rattle.schedule.specs.Schedule.{headerOf, numbersOf, readAnswer, roomAfter, afterRead, headerFor, scheduleNo, scheduleForm, writeAnswer, afterWrite}
+use Rattle.schedule.specs.Schedule.{headerOf, numbersOf, readAnswer, afterRead, headerFor, scheduleNo, scheduleForm, writeAnswer, afterWrite}
 use Rattle.schedule.specs.declared.ScheduleRead.{ScheduleRead}
 use Rattle.schedule.specs.declared.ScheduleRead.the-variants as schedule
 use Rattle.schedule.proofs.Valid.{six-within, no-valid}
@@ -30,17 +30,17 @@ pub record Fills (o : Outcome) (room : List ℕ) (a : ScheduleRead) (e : List �
 module _ (room : List ℕ) where
   -- the form is refused
   pub no-form : (r : Refusal) → Fills (refused r) room (schedule.Refused r) room
-  unfolding readAnswer roomAfter afterRead
+  unfolding readAnswer afterRead
   no-form r = record { answer = refl; after = refl }
 
   -- the room is too small
   pub small : (vs : List ℕ) (next : ℕ) → length room < headerOf vs .events * 3 → Fills (got vs next) room (schedule.Refused (record { no = 8 })) room
-  unfolding readAnswer roomAfter afterRead
+  unfolding readAnswer afterRead
   small vs next l = record { answer = rw (lt-ltb _ _ l); after = rw (lt-ltb _ _ l) }
 
   -- the events fill its first places
   pub filled : (vs : List ℕ) (next : ℕ) → headerOf vs .events * 3 ≤ length room → Fills (got vs next) room (schedule.Events (headerOf vs)) (sets room 0 (drop 6 vs))
-  unfolding readAnswer roomAfter afterRead
+  unfolding readAnswer afterRead
   filled vs next l = record { answer = rw (le-ltb _ _ l); after = rw (le-ltb _ _ l) }
 
 -- ---- writing

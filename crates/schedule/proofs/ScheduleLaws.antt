@@ -8,7 +8,7 @@ use native.Mathlib.Omega.{arith}
 use native.Mathlib.Nat.{zero-mul, suc-mul}
 use lib.Dec.{eqb, ltb}
 use lib.ListN.{length, take, drop, replicate, length-append, length-replicate}
-use lib.Seq.{sets, sets-eq, length-sets, take-at, drop-at}
+use lib.Seq.{sets, sets-eq, take-at, drop-at}
 use borrow.Author.Tests.{eqb-true, eqb-false, ltb-false, eq-eqb, le-ltb, le-leb}
 use Rattle.sets.specs.Scans.{mostScans}
 use Rattle.sets.specs.Acceptors.{mostAcceptors}
@@ -18,20 +18,19 @@ use Rattle.sizes.specs.declared.Sizes.{Sizes}
 use Rattle.numbers.specs.Coding.{groupsOf, mostOf, formIn, form, refusedWrite, leaves}
 use Rattle.numbers.specs.declared.Limit.the-variants as limit
 use Rattle.numbers.specs.declared.Refusal.{Refusal}
-use Rattle.numbers.specs.declared.Written.{Written}
 use Rattle.numbers.specs.declared.Written.the-variants as written
 use Rattle.numbers.proofs.Forms.{form-short}
 use Rattle.forms.specs.Forms.{Outcome, got, refused, refusedWith, untested, prepend, plain, whole, forms, allWithin}
 use Rattle.forms.proofs.Outcomes.{refused-got}
 use Rattle.forms.proofs.FormLaws.{row-forms, stands-append, stands-whole, forms-append, forms-length, forms-bytes}
-use Rattle.schedule.specs.Schedule.{headerOf, numbersOf, headerNo, events, readSchedule, readAnswer, roomAfter, afterRead, eventsIn, headerFor, scheduleNo, scheduleForm, writeAnswer, afterWrite}
+use Rattle.schedule.specs.Schedule.{headerOf, numbersOf, headerNo, events, readSchedule, readAnswer, afterRead, eventCount, headerFor, scheduleNo, scheduleForm, writeAnswer, afterWrite}
 use Rattle.schedule.specs.declared.Header.{Header}
 use Rattle.schedule.specs.declared.Checked.{Checked}
-use Rattle.schedule.specs.declared.ScheduleRead.{ScheduleRead}
 use Rattle.schedule.specs.declared.ScheduleRead.the-variants as schedule
 use Rattle.schedule.proofs.Sixes.{plain-count, plain-within, plain-reads, plain-refusals, six-numbers, header-numbers, header-append}
 use Rattle.schedule.proofs.Parts.{Reading, no-six, no-header, no-events, follows, right, reading}
-use Rattle.schedule.proofs.Valid.{Right, header-refusals, no-right, ranges, right-no, six-within, Valid, no-valid, valid-no, schedule-refusals}
+use Rattle.sizes.proofs.SizeLaws.{bounds}
+use Rattle.schedule.proofs.Valid.{Right, header-refusals, no-right, right-no, six-within, Valid, no-valid, valid-no, schedule-refusals}
 use Rattle.schedule.proofs.Answers.{form-length, wrote}
 pub use Rattle.forms.proofs.FormLaws.{Bytes}
 
@@ -43,7 +42,7 @@ pub record OneForm (bytes vs : List ℕ) (next : ℕ) : Type 0 where
   pub accepted : scheduleNo (headerOf vs .sizes) (drop 6 vs) ≡ 0
   pub numbers : vs ≡ numbersOf (headerOf vs) ++ drop 6 vs
   pub ends : next ≡ length bytes
-  pub count : eventsIn (drop 6 vs) ≡ headerOf vs .events
+  pub count : eventCount (drop 6 vs) ≡ headerOf vs .events
 
 -- the same of six numbers and those after them
 parts-one-form : (bytes six ws : List ℕ) (first next : ℕ) → Bytes bytes → plain 6 limit.Schedule bytes 0 ≡ got six first → headerNo (headerOf six) ≡ 0
@@ -55,7 +54,7 @@ parts-one-form bytes six ws first next b e h f l =
     let count : length ws ≡ headerOf six .events * 3 = plain-count n limit.Schedule bytes first f in
     let head : headerOf (six ++ ws) ≡ headerOf six = header-append six ws six-count in
     let rest : drop 6 (six ++ ws) ≡ ws = drop-at six ws 6 six-count in
-    let es : eventsIn ws ≡ headerOf six .events = omega arith in
+    let es : eventCount ws ≡ headerOf six .events = omega arith in
     let hf : headerFor (headerOf six .sizes) ws ≡ headerOf six = rw es in
     let stand = stands-append (row-forms (replicate 6 untested) limit.Schedule bytes 0 b e .stands) (row-forms (replicate n untested) limit.Schedule bytes first b f .stands) in
     let all : bytes ≡ forms (six ++ ws) = stands-whole stand l in
@@ -112,10 +111,10 @@ six-reads z fields v =
     rw n at (plain-reads limit.Schedule six (six-within (headerFor z fields) (v .header)) [] (forms fields))
 
 events-read : (z : Sizes) (fields : List ℕ) → Valid z fields
-    → plain (eventsIn fields * 3) limit.Schedule (scheduleForm z fields) (length (forms (numbersOf (headerFor z fields)))) ≡ got fields (length (scheduleForm z fields))
+    → plain (eventCount fields * 3) limit.Schedule (scheduleForm z fields) (length (forms (numbersOf (headerFor z fields)))) ≡ got fields (length (scheduleForm z fields))
 unfolding scheduleForm
 events-read z fields v =
-    let n : eventsIn fields * 3 ≡ length fields = omega (arith, v .three) in
+    let n : eventCount fields * 3 ≡ length fields = omega (arith, v .three) in
     rw (n, form-length z fields) (rw (append-nil (forms fields)) at (plain-reads limit.Schedule fields (v .within) (forms (numbersOf (headerFor z fields))) []))
 
 -- the form of sizes and events that may be written reads as their numbers, to its end
@@ -146,7 +145,7 @@ header-bytes : (h : Header) → Right h → length (forms (numbersOf h)) ≤ 8
 unfolding forms numbersOf
 header-bytes h r =
     let z = h .sizes in
-    let s = ranges z (r .sizes) in
+    let s = bounds z (r .sizes) in
     let n = r .count in
     simp length-append (
     omega (
@@ -218,7 +217,7 @@ unfolding mostOf scheduleForm
 longest-of n e =
     let fields : List ℕ = replicate n 16_384 in
     let count : length fields ≡ 12_288 = length-replicate n 16_384 ∙ e in
-    let es : eventsIn fields ≡ 4_096 = omega arith in
+    let es : eventCount fields ≡ 4_096 = omega arith in
     let v : Valid wide fields = record { header = rw es wide-right; three = omega arith; within = replicate-within n 16_384 (omega arith) } in
     let six : length (forms (numbersOf (headerFor wide fields))) ≡ 8 = rw es wide-bytes in
     let rest : length (forms fields) ≡ n * 3 = replicate-forms n 16_384 ∙ ap (λ (k : ℕ). n * k) three-bytes in
@@ -239,8 +238,8 @@ longest-stands = longest-of 12_288 refl
 
 -- ---- refusals
 
-refusal : {n : ℕ} {r : Refusal} → refusedWith n ≡ refused r → r .no ≡ n
-refusal {n} {r} e = let p : record { no = n } ≡ r = cc in sym (ap (λ (s : Refusal). s .no) p)
+refused-no : {n : ℕ} {r : Refusal} → refusedWith n ≡ refused r → r .no ≡ n
+refused-no {n} {r} e = let p : record { no = n } ≡ r = cc in sym (ap (λ (s : Refusal). s .no) p)
 
 -- the refusals of the form
 abbrev pub ReadNo : ℕ → Type 0
@@ -255,18 +254,18 @@ pub read-refusals : (bytes : List ℕ) (r : Refusal) → readSchedule bytes ≡ 
 read-refusals bytes r e = go (reading bytes) e
   where
     number : {s : Refusal} → (s .no ≡ 11) ⊎ (s .no ≡ 12) → refused s ≡ refused r → ReadNo (r .no)
-    number (inl p) q = inr (inr (inl (refusal q ∙ p)))
-    number (inr p) q = inr (inr (inr (inl (refusal q ∙ p))))
+    number (inl p) q = inr (inr (inl (refused-no q ∙ p)))
+    number (inr p) q = inr (inr (inr (inl (refused-no q ∙ p))))
 
     header : {n : ℕ} → (n ≡ 1) ⊎ (n ≡ 3) → refusedWith n ≡ refused r → ReadNo (r .no)
-    header (inl p) q = inl (refusal q ∙ p)
-    header (inr p) q = inr (inl (refusal q ∙ p))
+    header (inl p) q = inl (refused-no q ∙ p)
+    header (inr p) q = inr (inl (refused-no q ∙ p))
 
     go : {k : Checked} {o : Outcome} → Reading bytes k o → o ≡ refused r → ReadNo (r .no)
     go (no-six a) q = number (plain-refusals 6 limit.Schedule bytes 0 a) q
     go (no-header {six = six} a h) q = header (header-refusals (headerOf six) h) q
     go (no-events {six = six} {first = first} a h d) q = number (plain-refusals (headerOf six .events * 3) limit.Schedule bytes first d) q
-    go (follows a h d l) q = inr (inr (inr (inr (refusal q))))
+    go (follows a h d l) q = inr (inr (inr (inr (refused-no q))))
     go (right a h d l) q = absurd (refused-got (sym q))
 
 -- reading into room refuses as the form does, or with 8
@@ -281,18 +280,13 @@ room-refusals (got vs next) room r e = go (ltb (length room) (headerOf vs .event
 
 -- a refusal leaves the room as it was
 pub read-refused : (o : Outcome) (room : List ℕ) (r : Refusal) → readAnswer o room ≡ schedule.Refused r → afterRead o room ≡ room
-unfolding afterRead roomAfter
-read-refused o room r e = rw e
-
--- reading keeps the length of the room
-pub read-length : (o : Outcome) (room : List ℕ) → length (afterRead o room) ≡ length room
-unfolding afterRead roomAfter
-read-length o room = go (readAnswer o room) o
+unfolding readAnswer afterRead
+read-refused (refused s) room r e = refl
+read-refused (got vs next) room r e = go (ltb (length room) (headerOf vs .events * 3)) e
   where
-    go : (a : ScheduleRead) (p : Outcome) → length (roomAfter a p room) ≡ length room
-    go (schedule.Events h) (got vs next) = length-sets room 0 (drop 6 vs)
-    go (schedule.Events h) (refused r) = refl
-    go (schedule.Refused r) p = refl
+    go : (t : Bool) → (if t then schedule.Refused (record { no = 8 }) else schedule.Events (headerOf vs)) ≡ schedule.Refused r → (if t then room else sets room 0 (drop 6 vs)) ≡ room
+    go true q = refl
+    go false q = absurd (let z : _≡_ {A = ℕ} 0 1 = cc in omega arith)
 
 -- a writer refuses with 1, 3, 8 or 12
 pub write-refusals : (z : Sizes) (fields d : List ℕ) (r : Refusal) → writeAnswer z fields d ≡ written.Refused r → WriteNo (r .no)
@@ -352,12 +346,3 @@ write-reads-back z fields d n e =
 pub write-refused : (z : Sizes) (fields d : List ℕ) (r : Refusal) → writeAnswer z fields d ≡ written.Refused r → afterWrite z fields d ≡ d
 unfolding afterWrite
 write-refused z fields d r e = rw e
-
--- writing keeps the length of the buffer
-pub write-length : (z : Sizes) (fields d : List ℕ) → length (afterWrite z fields d) ≡ length d
-unfolding afterWrite
-write-length z fields d = go (writeAnswer z fields d)
-  where
-    go : (w : Written) → length (leaves w (sets d 0 (scheduleForm z fields)) d) ≡ length d
-    go (written.Next n) = length-sets d 0 (scheduleForm z fields)
-    go (written.Refused r) = refl

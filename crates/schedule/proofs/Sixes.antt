@@ -17,7 +17,7 @@ use Rattle.numbers.specs.declared.Read.the-variants as read
 use Rattle.numbers.proofs.CodingLaws.{refusals}
 use Rattle.numbers.proofs.Forms.{form-in-most}
 use Rattle.forms.specs.Forms.{Outcome, got, refused, Test, testRead, prepend, andThen, row, untested, plain, numbersAt, forms, rowNo, asRead, allWithin}
-use Rattle.forms.proofs.Steps.{and-left, and-right}
+use Rattle.choice.proofs.Tests.{and-l, and-r}
 use Rattle.forms.proofs.Outcomes.{refused-got, cons-row-no, zero-as-read}
 use Rattle.forms.proofs.FormLaws.{Bytes, Run, none, one, row-run, numbers-of-row, row-reads, row-forms, row-within}
 use Rattle.schedule.specs.Schedule.{headerOf, numbersOf}
@@ -52,16 +52,16 @@ plain-within n limit bytes at {vs} b e =
 pub within-at : (limit : Limit) (vs : List ℕ) → allWithin limit vs ≡ true → (k : ℕ) → getD vs k 0 ≤ mostOf limit
 unfolding allWithin
 within-at limit [] h k = omega arith
-within-at limit (v ∷ vs) h zero = leb-true v (mostOf limit) (and-left (leb v (mostOf limit)) (allWithin limit vs) h)
-within-at limit (v ∷ vs) h (suc k) = within-at limit vs (and-right (leb v (mostOf limit)) (allWithin limit vs) h) k
+within-at limit (v ∷ vs) h zero = leb-true v (mostOf limit) (and-l (leb v (mostOf limit)) (allWithin limit vs) h)
+within-at limit (v ∷ vs) h (suc k) = within-at limit vs (and-r (leb v (mostOf limit)) (allWithin limit vs) h) k
 
 -- numbers within the limit pass as numbers that are not tested
 within-tested : (limit : Limit) (vs : List ℕ) → allWithin limit vs ≡ true → rowNo (map (asRead limit) (replicate (length vs) untested)) vs ≡ 0
 unfolding allWithin rowNo
 within-tested limit [] h = refl
 within-tested limit (v ∷ vs) h =
-    let w = leb-true v (mostOf limit) (and-left (leb v (mostOf limit)) (allWithin limit vs) h) in
-    let r = within-tested limit vs (and-right (leb v (mostOf limit)) (allWithin limit vs) h) in
+    let w = leb-true v (mostOf limit) (and-l (leb v (mostOf limit)) (allWithin limit vs) h) in
+    let r = within-tested limit vs (and-r (leb v (mostOf limit)) (allWithin limit vs) h) in
     cons-row-no (asRead limit untested) (map (asRead limit) (replicate (length vs) untested)) v vs (zero-as-read limit untested v w refl) r
 
 -- the forms of numbers within the limit read as these numbers, wherever they stand

@@ -1,10 +1,11 @@
 -- The schedule of document 01, "Written forms".
 use mathlib.Core.List.{List, [], _∷_, _++_}
 use Prim.Native.Nat.{ℕ, _*_, _/_, _%_}
-use lib.Dec.{eqb, ltb}
+use lib.Dec.{eqb, ltb, leb}
 use lib.ListN.{length, drop, getD}
 use lib.Seq.{sets}
 use Rattle.choice.specs.Choice.{if_then_else_}
+use Rattle.choice.specs.Tests.{_unless_, refusal, _⨾_, ok}
 use Rattle.sizes.specs.Sizes.{sizesInRange}
 use Rattle.sizes.specs.declared.Sizes.{Sizes}
 use Rattle.numbers.specs.Coding.{mostOf, refusedWrite, leaves}
@@ -42,7 +43,10 @@ numbersOf h =
 
 -- the six are read, then sizes tested (1), then E above 4,096 (3)
 unfoldable pub headerNo : Header → ℕ
-headerNo h = if sizesInRange (h .sizes) then (if ltb 4_096 (h .events) then 3 else 0) else 1
+headerNo h =
+    1 unless sizesInRange (h .sizes)
+    ⨾ 3 unless leb (h .events) 4_096
+    ⨾ ok
 
 -- ---- reading
 
@@ -70,34 +74,28 @@ readAnswer (got vs next) room =
     else schedule.Events (headerOf vs)
 readAnswer (refused r) room = schedule.Refused r
 
--- the room after an answer: a refusal leaves it as it was; the numbers of the events fill its first places
-unfoldable pub roomAfter : ScheduleRead → Outcome → List ℕ → List ℕ
-roomAfter (schedule.Events h) (got vs next) room = sets room 0 (drop 6 vs)
-roomAfter (schedule.Events h) (refused r) room = room
-roomAfter (schedule.Refused r) outcome room = room
-
+-- a refusal leaves the room as it was; the numbers of the events fill its first places
 unfoldable pub afterRead : Outcome → List ℕ → List ℕ
-afterRead outcome room = roomAfter (readAnswer outcome room) outcome room
+afterRead (got vs next) room = if ltb (length room) (headerOf vs .events * 3) then room else sets room 0 (drop 6 vs)
+afterRead (refused r) room = room
 
 -- ---- writing
 
 -- how many events their numbers are
-abbrev pub eventsIn : List ℕ → ℕ
-eventsIn fields = length fields / 3
+abbrev pub eventCount : List ℕ → ℕ
+eventCount fields = length fields / 3
 
 abbrev pub headerFor : Sizes → List ℕ → Header
-headerFor z fields = record { sizes = z; events = eventsIn fields }
+headerFor z fields = record { sizes = z; events = eventCount fields }
 
--- a writer tests its values as the reader would: 12 where E is too large for the coding; 1 where a size is outside its range or the numbers are not whole events; 3 where E is above 4,096; 12 where a number of an event is too large
+-- a writer tests its values as the reader would; numbers that are not whole events give 1
 unfoldable pub scheduleNo : Sizes → List ℕ → ℕ
 scheduleNo z fields =
-    if ltb (mostOf limit.Schedule) (eventsIn fields)
-    then 12
-    else (if eqb (length fields % 3) 0
-    then (if eqb (headerNo (headerFor z fields)) 0
-    then (if allWithin limit.Schedule fields then 0 else 12)
-    else headerNo (headerFor z fields))
-    else 1)
+    12 unless leb (eventCount fields) (mostOf limit.Schedule)
+    ⨾ 1 unless eqb (length fields % 3) 0
+    ⨾ refusal (headerNo (headerFor z fields))
+    ⨾ 12 unless allWithin limit.Schedule fields
+    ⨾ ok
 
 -- the written form
 unfoldable pub scheduleForm : Sizes → List ℕ → List ℕ
@@ -112,3 +110,15 @@ writeAnswer z fields buffer =
 
 unfoldable pub afterWrite : Sizes → List ℕ → List ℕ → List ℕ
 afterWrite z fields buffer = leaves (writeAnswer z fields buffer) (sets buffer 0 (scheduleForm z fields)) buffer
+
+-- ---- an answer as numbers
+
+-- document 01's number of an answer: 0, or the refusal's
+abbrev pub scheduleReadNo : ScheduleRead → ℕ
+scheduleReadNo (schedule.Events h) = 0
+scheduleReadNo (schedule.Refused r) = r .no
+
+-- the six numbers that an answer gives, or what stood there before
+abbrev pub scheduleHeader : ScheduleRead → List ℕ → List ℕ
+scheduleHeader (schedule.Events h) old = numbersOf h
+scheduleHeader (schedule.Refused r) old = old

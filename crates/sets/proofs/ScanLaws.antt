@@ -2,10 +2,9 @@
 use mathlib.Core.Path.{_≡_, refl, sym, ap, _∙_, subst}
 use mathlib.Core.Logic.{_⊎_, inl, inr}
 use mathlib.Core.Bool.{Bool, true, false, not, _&&_, false≢true}
-use Prim.Native.Nat.{ℕ, _^_, _≤_, _<_}
-use native.Mathlib.Omega.{arith}
+use Prim.Native.Nat.{ℕ, _^_, _<_}
 use lib.Bits.{bitOr, or-comm, or-self, or-zero-l}
-use lib.Dec.{eqb, ltb}
+use lib.Dec.{ltb}
 use borrow.Author.Tests.{eqb-true, eq-eqb, ltb-true, lt-ltb}
 use Rattle.choice.specs.Choice.{if_then_else_}
 use Rattle.sets.specs.Scans.{mostScans, empty, only, _∪_, holds, _∈_, _⊆_, within, strictlyWithin, isEmpty, fits}
@@ -34,16 +33,10 @@ pub empty-∪ : (a : Scans) → empty ∪ a ≡ a
 unfolding _∪_ of empty
 empty-∪ a = ap of (or-zero-l (a .bits))
 
-pub ∪-empty : (a : Scans) → a ∪ empty ≡ a
-∪-empty a = ∪-comm a empty ∙ empty-∪ a
-
 -- ---- containment is an order, and the join is its least upper bound
 
 pub ⊆-refl : (a : Scans) → a ⊆ a
 ⊆-refl a = record { joins = ∪-self a }
-
-pub ⊆-of-eq : {a b : Scans} → a ≡ b → a ⊆ b
-⊆-of-eq {a} {b} e = record { joins = cc (∪-self b) }
 
 pub ⊆-trans : {a b c : Scans} → a ⊆ b → b ⊆ c → a ⊆ c
 ⊆-trans {a} {b} {c} p q = record { joins = cc (∪-assoc a b c) }
@@ -164,6 +157,3 @@ fits-only k s h = below-fits (only k) s (λ j m. subst (λ (i : ℕ). i < s) (sy
 pub fits-∪ : (a b : Scans) (s : ℕ) → fits a s ≡ true → fits b s ≡ true → fits (a ∪ b) s ≡ true
 fits-∪ a b s p q =
     below-fits (a ∪ b) s (λ k m. elim (∈-∪ m) [ inl u ↦ fits-below s p u | inr u ↦ fits-below s q u ])
-
-pub fits-⊆ : {a b : Scans} (s : ℕ) → a ⊆ b → fits b s ≡ true → fits a s ≡ true
-fits-⊆ {a} {b} s h p = below-fits a s (λ k m. fits-below s p (∈-⊆ m h))

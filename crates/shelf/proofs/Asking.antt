@@ -1,31 +1,28 @@
--- The steps of the shelf question: one scan more, the tests of a table, the tests of a question, and a table that was read into room. Assumes
--- nothing.
+-- The steps of the shelf question: one scan more, a table's size, the tests of a question, and a table that was read into room. Assumes nothing.
 use mathlib.Core.Path.{_≡_, refl, sym, ap, _∙_}
-use mathlib.Core.Bool.{Bool, true, false}
+use mathlib.Core.Bool.{true, false}
 use mathlib.Core.List.{List}
-use mathlib.Core.Logic.{_⊎_, inl, inr, ⊎-elim}
-use Prim.Native.Nat.{ℕ, zero, suc, _+_, _-_, _*_, _%_, _^_, _<_, _≤_}
+use mathlib.Core.Logic.{_⊎_, ⊎-elim}
+use Prim.Native.Nat.{ℕ, zero, suc, _+_, _-_, _*_, _^_, _<_, _≤_}
 use native.Mathlib.Omega.{arith}
 use native.Mathlib.Numerals.{add-one}
-use lib.Dec.{eqb}
 use lib.ListN.{length, drop, getD, List·getD-append}
 use lib.Seq.{sets, sets-eq}
-use borrow.Author.Tests.{lt-ltb, le-ltb, eq-eqb, ne-eqb}
+use borrow.Author.Tests.{lt-leb, le-leb, eq-eqb, ne-eqb}
 use Rattle.choice.specs.Choice.{if_then_else_}
 use Rattle.sets.specs.Scans.{fits}
 use Rattle.sets.specs.declared.scans.Scans.{Scans}
-use Rattle.sizes.specs.Sizes.{scansInRange}
 use Rattle.numbers.specs.declared.Refusal.{Refusal}
 use Rattle.forms.specs.Forms.{Outcome, got, refused}
-use Rattle.forms.proofs.Steps.{and-right}
 use Rattle.scan_table.specs.declared.TableRead.the-variants as table
-use Rattle.scan_table.specs.Table.{scanTests, scanAt, scansIn, wholeTable, recordsNo, readTable, readAnswer, afterRead}
-use Rattle.scan_table.proofs.Testing.{scans-ranged}
+use Rattle.scan_table.specs.Table.{tagNo, scanTests, scanAt, scansIn, tableNo, readTable, readAnswer, afterRead}
+use Rattle.sizes.proofs.SizeLaws.{scans-ranged}
+use Rattle.scan_table.proofs.Testing.{table-passes}
 use Rattle.scan_table.proofs.Tables.{table-got, checked-got}
 use Rattle.scan_table.proofs.TableLaws.{Narrow, table-count, read-refusals, read-scans}
 use Rattle.shelf.specs.declared.Newest.{Newest}
 use Rattle.shelf.specs.declared.Shelf.the-variants as shelf
-use Rattle.shelf.specs.Shelf.{seenAt, isCandidate, better, newest, shown, refusedShelf, questionNo, ask, tableNo, whereIs, whereIsWritten}
+use Rattle.shelf.specs.Shelf.{seenAt, isCandidate, better, newest, shown, refusedShelf, questionNo, ask, whereIs, whereIsWritten}
 
 -- ---- one scan more
 
@@ -67,59 +64,38 @@ newest-same (suc n) a b set tag h =
 
 -- ---- the table
 
-module _ (fields : List ℕ) where
-  -- its numbers are not whole scans
-  pub table-uneven : (length fields % 4 ≡ 0 → ⊥) → tableNo fields ≡ 1
-  unfolding tableNo wholeTable
-  table-uneven h = rw (ne-eqb (length fields % 4) 0 h)
-
-  -- it has too many scans, or none
-  pub table-unsized : length fields % 4 ≡ 0 → scansInRange (scansIn fields) ≡ false → tableNo fields ≡ 1
-  unfolding tableNo wholeTable
-  table-unsized e h = rw (eq-eqb (length fields % 4) 0 e, h)
-
-  -- it is as its scans are
-  pub table-whole : length fields % 4 ≡ 0 → scansInRange (scansIn fields) ≡ true → tableNo fields ≡ recordsNo scanTests (scansIn fields) fields 0
-  unfolding tableNo wholeTable
-  table-whole e h = rw (eq-eqb (length fields % 4) 0 e, h)
-
-  -- without a refusal it has at most 64 scans
-  pub table-most : tableNo fields ≡ 0 → scansIn fields ≤ 64
-  unfolding tableNo wholeTable
-  table-most e = go (wholeTable fields) refl e
-    where
-      go : (t : Bool) → wholeTable fields ≡ t → (if t then recordsNo scanTests (scansIn fields) fields 0 else 1) ≡ 0 → scansIn fields ≤ 64
-      go false q h = absurd (omega arith)
-      go true q h = scans-ranged (scansIn fields) (and-right (eqb (length fields % 4) 0) (scansInRange (scansIn fields)) q) .1
+-- without a refusal it has at most 64 scans
+pub table-most : (fields : List ℕ) → tableNo scanTests fields ≡ 0 → scansIn fields ≤ 64
+table-most fields e = scans-ranged (scansIn fields) (table-passes scanTests fields e .ranged) .1
 
 -- ---- the question
 
 module _ (n : ℕ) (fields : List ℕ) (set : Scans) (tag : ℕ) where
   -- the tag is too large
   pub ask-tag : 2 ^ 32 - 1 < tag → ask n fields set tag ≡ refusedShelf 3
-  unfolding ask questionNo
-  ask-tag h = rw (lt-ltb (2 ^ 32 - 1) tag h)
+  unfolding ask questionNo tagNo
+  ask-tag h = rw (lt-leb tag (2 ^ 32 - 1) h)
 
   -- the set holds a scan not below n
   pub ask-set : tag ≤ 2 ^ 32 - 1 → fits set n ≡ false → ask n fields set tag ≡ refusedShelf 3
-  unfolding ask questionNo
-  ask-set h e = rw (le-ltb (2 ^ 32 - 1) tag h, e)
+  unfolding ask questionNo tagNo
+  ask-set h e = rw (le-leb tag (2 ^ 32 - 1) h, e)
 
   -- the newest is shown
   pub ask-newest : tag ≤ 2 ^ 32 - 1 → fits set n ≡ true → ask n fields set tag ≡ shown (newest n fields set tag)
-  unfolding ask questionNo
-  ask-newest h e = rw (le-ltb (2 ^ 32 - 1) tag h, e)
+  unfolding ask questionNo tagNo
+  ask-newest h e = rw (le-leb tag (2 ^ 32 - 1) h, e)
 
 module _ (fields : List ℕ) (set : Scans) (tag : ℕ) where
   -- the table is refused
-  pub where-refused : (tableNo fields ≡ 0 → ⊥) → whereIs fields set tag ≡ refusedShelf (tableNo fields)
+  pub where-refused : (tableNo scanTests fields ≡ 0 → ⊥) → whereIs fields set tag ≡ refusedShelf (tableNo scanTests fields)
   unfolding whereIs
-  where-refused h = rw (ne-eqb (tableNo fields) 0 h)
+  where-refused h = rw (ne-eqb (tableNo scanTests fields) 0 h)
 
   -- the question is asked
-  pub where-asked : tableNo fields ≡ 0 → whereIs fields set tag ≡ ask (scansIn fields) fields set tag
+  pub where-asked : tableNo scanTests fields ≡ 0 → whereIs fields set tag ≡ ask (scansIn fields) fields set tag
   unfolding whereIs
-  where-asked h = rw (eq-eqb (tableNo fields) 0 h)
+  where-asked h = rw (eq-eqb (tableNo scanTests fields) 0 h)
 
 -- ---- a table that was read into room
 

@@ -5,30 +5,31 @@ use mathlib.Core.List.{List}
 use mathlib.Core.Logic.{_⊎_, inl, inr, ⊎-elim, ⊎-map}
 use Prim.Native.Nat.{ℕ, zero, suc, _+_, _-_, _^_, _<_, _≤_}
 use native.Mathlib.Omega.{arith}
-use lib.Dec.{eqb, ltb}
+use lib.Dec.{eqb, ltb, leb}
 use lib.ListN.{drop, getD}
-use borrow.Author.Tests.{ltb-true, ltb-false, lt-ltb, le-ltb, eqb-true, eqb-false, eq-eqb}
+use borrow.Author.Tests.{leb-true, ltb-true, ltb-false, lt-ltb, le-ltb, eqb-true, eqb-false, eq-eqb}
 use Rattle.choice.specs.Choice.{if_then_else_}
+use Rattle.choice.specs.Tests.{_unless_, _⨾_, ok}
 use Rattle.sets.specs.Scans.{holds, _∈_, _⊆_, fits}
 use Rattle.sets.specs.declared.ScanId.{ScanId}
 use Rattle.sets.specs.declared.scans.Scans.{Scans}
 use Rattle.sets.proofs.ScanLaws.{∈-⊆}
 use Rattle.numbers.specs.declared.Refusal.{Refusal}
-use Rattle.forms.specs.Forms.{Outcome, got, refused, rowNo}
-use Rattle.forms.proofs.Steps.{and-left, and-right}
+use Rattle.forms.specs.Forms.{Outcome, got, refused}
+use Rattle.choice.proofs.Tests.{and-l, and-r, test-passed, no-refusal, rest-unrefused}
 use Rattle.scan_table.specs.declared.TableRead.the-variants as table
-use Rattle.scan_table.specs.Table as scan
-use Rattle.scan_table.specs.Table.{tagNo, deviceNo, timeNo, scanTests, scanAt, scansIn, fieldsOf, wholeTable, recordsNo, readTable, checkAnswer}
-use Rattle.scan_table.proofs.Refusals.{All, ended, and, gives-one, gives-first, row-gives}
+use Rattle.scan_table.specs.Table.{tagNo, scanTests, scansIn, tableNo, readTable, checkAnswer}
+use Rattle.scan_table.proofs.Refusals.{gives-one, gives-first}
+use Rattle.scan_table.proofs.Testing.{rows-pass}
 use Rattle.scan_table.proofs.Tables.{table-got}
-use Rattle.scan_table.proofs.TableLaws.{ReadRefusal, table-count, table-in-range, table-refusals}
+use Rattle.scan_table.proofs.TableLaws.{ReadRefusal, table-tested, scan-gives, table-gives, table-refusals}
 use Rattle.shelf.specs.declared.Seen.{Seen}
 use Rattle.shelf.specs.declared.Newest.{Newest}
 use Rattle.shelf.specs.declared.Newest.the-variants.{Nothing, Found}
 use Rattle.shelf.specs.declared.Shelf.{Shelf}
 use Rattle.shelf.specs.declared.Shelf.the-variants as answer
-use Rattle.shelf.specs.Shelf.{seenAt, comesBefore, isCandidate, better, newest, shown, refusedShelf, questionNo, ask, tableNo, whereIs, whereIsWritten, shelfNo}
-use Rattle.shelf.proofs.Asking.{table-whole, ask-newest, where-asked}
+use Rattle.shelf.specs.Shelf.{seenAt, comesBefore, isCandidate, better, newest, shown, refusedShelf, questionNo, ask, whereIs, whereIsWritten}
+use Rattle.shelf.proofs.Asking.{ask-newest, where-asked}
 
 -- ---- the order
 
@@ -49,7 +50,7 @@ before-true a b e = go (ltb (a .scan .time) (b .scan .time)) refl e
     go false q h =
         let t = eqb (a .scan .time) (b .scan .time) in
         let n = ltb (a .number .0) (b .number .0) in
-        inr (eqb-true (a .scan .time) (b .scan .time) (and-left t n h), ltb-true (a .number .0) (b .number .0) (and-right t n h))
+        inr (eqb-true (a .scan .time) (b .scan .time) (and-l t n h), ltb-true (a .number .0) (b .number .0) (and-r t n h))
 
 -- and back
 true-before : (a b : Seen) → Before a b → comesBefore a b ≡ true
@@ -93,14 +94,6 @@ before-total fields i j h =
     let b = seenAt fields j in
     ⊎-map (true-before a b) (true-before b a) (either (a .scan .time) (b .scan .time) i j h)
 
--- what comes before a scan is not later
-pub later-time : (a b : Seen) → comesBefore a b ≡ true → a .scan .time ≤ b .scan .time
-later-time a b e = go (before-true a b e)
-  where
-    go : Before a b → a .scan .time ≤ b .scan .time
-    go (inl h) = omega arith
-    go (inr h) = omega arith
-
 -- what does not come before a scan is not earlier
 pub not-before-time : (a b : Seen) → comesBefore b a ≡ false → a .scan .time ≤ b .scan .time
 not-before-time a b e = go (ltb (b .scan .time) (a .scan .time)) refl
@@ -132,7 +125,7 @@ module _ (seen : Seen) (set : Scans) (tag : ℕ) where
   candidate-true e =
       let t = eqb (seen .scan .tag) tag in
       let s = holds set (seen .number .0) in
-      (eqb-true (seen .scan .tag) tag (and-left t s e), record { held = and-right t s e })
+      (eqb-true (seen .scan .tag) tag (and-l t s e), record { held = and-r t s e })
 
   -- and what has the tag and is in the set is one
   pub true-candidate : seen .scan .tag ≡ tag → seen .number .0 ∈ set → isCandidate seen set tag ≡ true
@@ -326,13 +319,11 @@ shown-of k w {i} {s} {t} e = go (eqb k 0) refl e
 
 -- a question without a refusal: the tag is in range, and the set holds only scans below n
 question-zero : (n : ℕ) (set : Scans) (tag : ℕ) → questionNo n set tag ≡ 0 → (tag ≤ 2 ^ 32 - 1) × (fits set n ≡ true)
-unfolding questionNo
-question-zero n set tag e = go (ltb (2 ^ 32 - 1) tag) refl (fits set n) refl e
-  where
-    go : (p : Bool) → ltb (2 ^ 32 - 1) tag ≡ p → (q : Bool) → fits set n ≡ q → _≡_ {A = ℕ} (if p || not q then 3 else 0) 0 → (tag ≤ 2 ^ 32 - 1) × (fits set n ≡ true)
-    go true f q g h = absurd (omega arith)
-    go false f false g h = absurd (omega arith)
-    go false f true g h = (ltb-false (2 ^ 32 - 1) tag f, g)
+unfolding questionNo tagNo
+question-zero n set tag e =
+    let rest : ℕ = 3 unless fits set n ⨾ ok in
+    let tagged = leb-true tag (2 ^ 32 - 1) (test-passed 2 (leb tag (2 ^ 32 - 1)) 0 (no-refusal (tagNo tag) rest e)) in
+    (tagged, test-passed 2 (fits set n) 0 (rest-unrefused (tagNo tag) rest e))
 
 -- a scan as the answer: the tag and the set are in range, and it is the newest
 pub record Asked (n : ℕ) (fields : List ℕ) (set : Scans) (tag : ℕ) (i : ScanId) (s t : ℕ) : Type 0 where
@@ -357,10 +348,10 @@ ask-shown n fields set tag {i} {s} {t} e =
 
 -- what the question on a table says by a scan: the table is not refused either
 pub where-shown : (fields : List ℕ) (set : Scans) (tag : ℕ) {i : ScanId} {s t : ℕ} → whereIs fields set tag ≡ answer.Shown i s t
-    → (tableNo fields ≡ 0) × Asked (scansIn fields) fields set tag i s t
+    → (tableNo scanTests fields ≡ 0) × Asked (scansIn fields) fields set tag i s t
 unfolding whereIs
 where-shown fields set tag e =
-    let p = shown-of (tableNo fields) (ask (scansIn fields) fields set tag) e in
+    let p = shown-of (tableNo scanTests fields) (ask (scansIn fields) fields set tag) e in
     (p .0, ask-shown (scansIn fields) fields set tag (p .1))
 
 -- an answer shows a scan that is not earlier than the time t
@@ -414,47 +405,17 @@ module _ (P : ℕ → Type 0) where
           let y : _≡_ {A = Refusal} (record { no = k }) r = cc in
           rw (← y) (p (eqb-false k 0 z))
 
-  -- the number of an answer is 0 or that of its refusal
-  no-of : (w : Shelf) → ((r : Refusal) → w ≡ answer.Refused r → P (r .no)) → (shelfNo w ≡ 0) ⊎ P (shelfNo w)
-  no-of answer.Nowhere h = inl refl
-  no-of (answer.Shown i s t) h = inl refl
-  no-of (answer.Refused r) h = inr (h r refl)
-
   -- the question refuses with 3
   ask-refuses : (n : ℕ) (fields : List ℕ) (set : Scans) (tag : ℕ) → P 3 → (r : Refusal) → ask n fields set tag ≡ answer.Refused r → P (r .no)
-  unfolding ask questionNo shown
+  unfolding ask questionNo tagNo shown
   ask-refuses n fields set tag three =
-      refused-of (questionNo n set tag) (shown (newest n fields set tag)) (gives-one P 3 (ltb (2 ^ 32 - 1) tag || not (fits set n)) three) (go (newest n fields set tag))
+      let tagged = gives-one P 3 (leb tag (2 ^ 32 - 1)) three in
+      let fitting = gives-one P 3 (fits set n) three in
+      refused-of (questionNo n set tag) (shown (newest n fields set tag)) (gives-first P (tagNo tag) (3 unless fits set n ⨾ ok) tagged fitting) (go (newest n fields set tag))
     where
       go : (x : Newest) (r : Refusal) → shown x ≡ answer.Refused r → P (r .no)
       go Nothing r e = absurd (let z : _≡_ {A = ℕ} 0 1 = cc in omega arith)
       go (Found seen) r e = absurd (refused-shown (sym e))
-
-  -- a scan's tests give 3, 10 or 12
-  scan-gives : P 3 → P 10 → P 12 → All P scanTests
-  unfolding tagNo scan.shelfNo deviceNo timeNo
-  scan-gives three ten twelve =
-      and (λ v. gives-one P 3 (ltb (2 ^ 32 - 1) v) three)
-      (and (λ v. gives-one P 3 (ltb 65_535 v) three)
-      (and (λ v. gives-one P 10 (eqb v 0 || ltb 255 v) ten)
-      (and (λ v. gives-one P 12 (ltb (2 ^ 48 - 1) v) twelve) ended)))
-
-  -- the first refusal of scans
-  records-give : All P scanTests → (fields : List ℕ) (n i : ℕ) → (recordsNo scanTests n fields i ≡ 0 → ⊥) → P (recordsNo scanTests n fields i)
-  unfolding recordsNo
-  records-give a fields zero i h = absurd (h refl)
-  records-give a fields (suc n) i h =
-      let s = fieldsOf (scanAt fields i) in
-      gives-first P (rowNo scanTests s) (recordsNo scanTests n fields (suc i)) (row-gives P a s) (records-give a fields n (suc i)) h
-
-  -- the first refusal of a table
-  table-gives : P 1 → All P scanTests → (fields : List ℕ) → (tableNo fields ≡ 0 → ⊥) → P (tableNo fields)
-  unfolding tableNo
-  table-gives size a fields h = go (wholeTable fields) h
-    where
-      go : (t : Bool) → ((if t then recordsNo scanTests (scansIn fields) fields 0 else 1) ≡ 0 → ⊥) → P (if t then recordsNo scanTests (scansIn fields) fields 0 else 1)
-      go true k = records-give a fields (scansIn fields) 0 k
-      go false k = size
 
 -- what the question on a table refuses with: 1 for its size, 3 for a tag, a shelf or the set, 10 for a device, 12 for a time
 abbrev pub ShelfRefusal : ℕ → Type 0
@@ -467,11 +428,7 @@ module _ (fields : List ℕ) (set : Scans) (tag : ℕ) where
   where-refusals =
       let three = inr (inl refl) in
       let tests = scan-gives ShelfRefusal three (inr (inr (inl refl))) (inr (inr (inr refl))) in
-      refused-of ShelfRefusal (tableNo fields) (ask (scansIn fields) fields set tag) (table-gives ShelfRefusal (inl refl) tests fields) (ask-refuses ShelfRefusal (scansIn fields) fields set tag three)
-
-  -- the number of an answer is 0 or such a refusal
-  pub where-no : (shelfNo (whereIs fields set tag) ≡ 0) ⊎ ShelfRefusal (shelfNo (whereIs fields set tag))
-  where-no = no-of ShelfRefusal (whereIs fields set tag) where-refusals
+      refused-of ShelfRefusal (tableNo scanTests fields) (ask (scansIn fields) fields set tag) (table-gives ShelfRefusal (inl refl) tests fields) (ask-refuses ShelfRefusal (scansIn fields) fields set tag three)
 
 module _ (bytes : List ℕ) (set : Scans) (tag : ℕ) where
   -- a question on the written form is refused so, or with 11 or 13: with what its reader refuses
@@ -485,28 +442,17 @@ module _ (bytes : List ℕ) (set : Scans) (tag : ℕ) where
           let p : s ≡ r = cc in
           rw (← p) (table-refusals bytes s q)
 
-  -- the number of an answer is 0 or such a refusal
-  pub written-no : (shelfNo (whereIsWritten (readTable bytes) set tag) ≡ 0) ⊎ ReadRefusal (shelfNo (whereIsWritten (readTable bytes) set tag))
-  written-no = no-of ReadRefusal (whereIsWritten (readTable bytes) set tag) written-refusals
-
 -- ---- the two questions are one
 
--- scans that each pass have no refusal
-records-pass : (fields : List ℕ) (n i : ℕ) → ((k : ℕ) → k < i + n → rowNo scanTests (fieldsOf (scanAt fields k)) ≡ 0) → recordsNo scanTests n fields i ≡ 0
-unfolding recordsNo
-records-pass fields zero i h = refl
-records-pass fields (suc n) i h = rw (h i (omega arith)) (records-pass fields n (suc i) (λ k l. h k (omega arith)))
-
 -- a table that was read is not refused
-read-passes : (bytes : List ℕ) {vs : List ℕ} {next : ℕ} → readTable bytes ≡ got vs next → (scansIn (drop 1 vs) ≡ getD vs 0 0) × (tableNo (drop 1 vs) ≡ 0)
+read-passes : (bytes : List ℕ) {vs : List ℕ} {next : ℕ} → readTable bytes ≡ got vs next → (scansIn (drop 1 vs) ≡ getD vs 0 0) × (tableNo scanTests (drop 1 vs) ≡ 0)
 read-passes bytes {vs} e =
     let fields = drop 1 vs in
     let t = table-got bytes e in
-    let l = table-count bytes e in
-    let n : scansIn fields ≡ getD vs 0 0 = omega arith in
+    let p = table-tested bytes e in
+    let l = p .0 in
     let s : getD vs 0 0 ≡ t .scans = ap (λ (l : List ℕ). getD l 0 0) (t .all) in
-    let p = records-pass fields (scansIn fields) 0 (λ k h. table-in-range bytes e k (omega arith)) in
-    (n, table-whole fields (omega arith) (rw (n, s) (t .ranged)) ∙ p)
+    (omega arith, rows-pass scanTests fields (getD vs 0 0) l (rw s (t .ranged)) (p .1))
 
 -- the question on the written form is the question on the table that was read
 pub written-read : (bytes : List ℕ) {vs : List ℕ} {next : ℕ} (set : Scans) (tag : ℕ) → readTable bytes ≡ got vs next → whereIsWritten (readTable bytes) set tag ≡ whereIs (drop 1 vs) set tag

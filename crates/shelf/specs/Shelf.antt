@@ -1,22 +1,32 @@
 -- The shelf question of document 01, "Clock and shelf".
-use mathlib.Core.Bool.{Bool, true, false, not, _&&_, _||_}
-use mathlib.Core.List.{List}
-use Prim.Native.Nat.{ℕ, zero, suc, _-_, _^_}
+use mathlib.Core.Bool.{Bool, _&&_, _||_}
+use mathlib.Core.List.{List, [], _∷_}
+use Prim.Native.Nat.{ℕ, zero, suc}
 use lib.Dec.{eqb, ltb}
 use lib.ListN.{drop, getD}
 use Rattle.choice.specs.Choice.{if_then_else_}
+use Rattle.choice.specs.Tests.{_unless_, refusal, _⨾_, ok}
 use Rattle.sets.specs.Scans.{holds, fits}
 use Rattle.sets.specs.declared.scans.Scans.{Scans}
-use Rattle.numbers.specs.declared.Refusal.{Refusal}
 use Rattle.forms.specs.Forms.{Outcome, got, refused}
-use Rattle.scan_table.specs.Table.{scanTests, scanAt, scansIn, wholeTable, recordsNo}
+use Rattle.scan_table.specs.Table.{tagNo, scanTests, scanAt, scansIn, tableNo}
 use Rattle.shelf.specs.declared.Seen.{Seen}
 use Rattle.shelf.specs.declared.Newest.{Newest}
 use Rattle.shelf.specs.declared.Newest.the-variants.{Nothing, Found}
 use Rattle.shelf.specs.declared.Shelf.{Shelf}
 use Rattle.shelf.specs.declared.Shelf.the-variants as shelf
 
--- scan i of a table
+abbrev pub refusedShelf : ℕ → Shelf
+refusedShelf n = shelf.Refused (record { no = n })
+
+-- after the table: a tag above 2 ^ 32 - 1, or a set holding a scan not below n, gives 3
+unfoldable pub questionNo : ℕ → Scans → ℕ → ℕ
+questionNo n set tag =
+    refusal (tagNo tag)
+    ⨾ 3 unless fits set n
+    ⨾ ok
+
+-- scan i of a table, with its number
 abbrev pub seenAt : List ℕ → ℕ → Seen
 seenAt fields i = record { number = record { 0 = i }; scan = scanAt fields i }
 
@@ -48,13 +58,6 @@ unfoldable pub shown : Newest → Shelf
 shown Nothing = shelf.Nowhere
 shown (Found seen) = shelf.Shown (seen .number) (seen .scan .shelf) (seen .scan .time)
 
-abbrev pub refusedShelf : ℕ → Shelf
-refusedShelf n = shelf.Refused (record { no = n })
-
--- after the table: a tag above 2 ^ 32 - 1, or a set holding a scan not below n, gives 3
-unfoldable pub questionNo : ℕ → Scans → ℕ → ℕ
-questionNo n set tag = if ltb (2 ^ 32 - 1) tag || not (fits set n) then 3 else 0
-
 -- the question on a table of n scans
 unfoldable pub ask : ℕ → List ℕ → Scans → ℕ → Shelf
 ask n fields set tag =
@@ -62,16 +65,12 @@ ask n fields set tag =
     then shown (newest n fields set tag)
     else refusedShelf (questionNo n set tag)
 
--- tested first is the table, in its reader's order
-unfoldable pub tableNo : List ℕ → ℕ
-tableNo fields = if wholeTable fields then recordsNo scanTests (scansIn fields) fields 0 else 1
-
--- the question on a table that has been read
+-- the question on a table that has been read: tested first is the table, in its reader's order
 unfoldable pub whereIs : List ℕ → Scans → ℕ → Shelf
 whereIs fields set tag =
-    if eqb (tableNo fields) 0
+    if eqb (tableNo scanTests fields) 0
     then ask (scansIn fields) fields set tag
-    else refusedShelf (tableNo fields)
+    else refusedShelf (tableNo scanTests fields)
 
 -- the question on the written form, by what reading it gave
 unfoldable pub whereIsWritten : Outcome → Scans → ℕ → Shelf
@@ -79,7 +78,13 @@ whereIsWritten (got vs next) set tag = ask (getD vs 0 0) (drop 1 vs) set tag
 whereIsWritten (refused r) set tag = shelf.Refused r
 
 -- document 01's number of an answer: 0, or the refusal's
-abbrev pub shelfNo : Shelf → ℕ
-shelfNo shelf.Nowhere = 0
-shelfNo (shelf.Shown i s t) = 0
-shelfNo (shelf.Refused r) = r .no
+abbrev pub askedNo : Shelf → ℕ
+askedNo shelf.Nowhere = 0
+askedNo (shelf.Shown i s t) = 0
+askedNo (shelf.Refused r) = r .no
+
+-- whether a scan is shown, its number, its shelf and its time; a refusal leaves what stood there before
+abbrev pub shelfNumbers : Shelf → List ℕ → List ℕ
+shelfNumbers shelf.Nowhere old = 0 ∷ 0 ∷ 0 ∷ 0 ∷ []
+shelfNumbers (shelf.Shown scan place time) old = 1 ∷ scan .0 ∷ place ∷ time ∷ []
+shelfNumbers (shelf.Refused r) old = old

@@ -1,8 +1,8 @@
 // The shelf question: where a crate was seen last, by the scans of its tag in a set.
 ghost use mathlib.Core.Path.{_≡_};
 ghost use Rattle.choice.specs.Choice.{if_then_else_};
-ghost use Rattle.scan_table.specs.Table.{scanTests, recordsNo, readTable};
-ghost use Rattle.shelf.specs.Shelf.{comesBefore, seenAt, isCandidate, better, newest, ask, tableNo, whereIs, whereIsWritten};
+ghost use Rattle.scan_table.specs.Table.{readTable};
+ghost use Rattle.shelf.specs.Shelf.{comesBefore, seenAt, isCandidate, better, newest, ask, whereIs, whereIsWritten};
 use numbers::Refusal;
 use scan_table::Scan;
 use scan_table::TableRead;
@@ -120,41 +120,11 @@ fn ask_of(fields: &[u64], scans: u16, set: Scans, tag: u64) -> Shelf
     }
 }
 
-// The first refusal of so many scans of a table.
-fn scans_no(fields: &[u64], scans: u16) -> u8
-    ensures { λ r. ⌜ r ≡ recordsNo scanTests scans (now (fields .entry)) 0 ⌝ }
-{
-    let mut i: u16 = 0;
-    while i < scans {
-        let scan = scan_table::scan_at(fields, ScanId(i));
-        let no = scan.no();
-        if no != 0 {
-            return no;
-        }
-        i += 1;
-    }
-    0
-}
-
-// The first refusal of a table's numbers.
-fn table_no(fields: &[u64]) -> u8
-    ensures { λ r. ⌜ r ≡ tableNo (now (fields .entry)) ⌝ }
-{
-    if fields.len() % 4 != 0 {
-        return 1;
-    }
-    let scans = fields.len() / 4;
-    if !sizes::scans_in_range(scans as u64) {
-        return 1;
-    }
-    scans_no(fields, scans as u16)
-}
-
 // Where the crate of a tag is, by a set of scans of a table that has been read.
 pub fn where_is(fields: &[u64], set: Scans, tag: u64) -> Shelf
     ensures { λ r. ⌜ r ≡ whereIs (now (fields .entry)) set tag ⌝ }
 {
-    let no = table_no(fields);
+    let no = scan_table::table_no(fields, false);
     if no != 0 {
         return Shelf::Refused(Refusal { no });
     }

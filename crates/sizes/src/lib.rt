@@ -1,6 +1,5 @@
 // The sizes of a run and their ranges.
 ghost use mathlib.Core.Path.{_≡_};
-ghost use Prim.Native.Nat.{ℕ};
 ghost use Rattle.sizes.specs.Sizes.{between, scansInRange, sizesInRange};
 use choice::both;
 use sets::acceptors::MOST_ACCEPTORS;

@@ -2,7 +2,6 @@
 use mathlib.Core.Path.{_≡_, refl, ap, _∙_}
 use mathlib.Core.List.{List}
 use Prim.Native.Nat.{ℕ}
-use lib.ListN.{drop}
 use Rattle.sizes.specs.declared.Sizes.{Sizes}
 use Rattle.sets.specs.Acceptors.{majority}
 use Rattle.numbers.specs.Coding.{groupsOf, mostOf, lastGroup, groupsFrom, readNumber}

@@ -12,7 +12,7 @@ use Rattle.numbers.specs.Coding.{readNumber}
 use Rattle.numbers.specs.declared.Limit.the-variants.{Schedule}
 use Rattle.numbers.specs.declared.Read.{Read}
 use Rattle.numbers.specs.declared.Read.the-variants as read
-use Rattle.clock.specs.Clock.{clockRule}
+use Rattle.clock.specs.Clock.{clockRule, clockNo}
 use Rattle.clock.specs.declared.ScanTime.{ScanTime}
 use Rattle.clock.specs.declared.ScanTime.the-variants as clock
 use Rattle.model.specs.declared.Proposer.{Proposer}
@@ -44,7 +44,7 @@ ofRead (read.Refused r) = refused (r .no)
 
 abbrev pub ofClock : ScanTime → Answer
 ofClock (clock.At time) = value time
-ofClock clock.Refused = refused 9
+ofClock clock.Refused = refused (clockNo clock.Refused)
 
 -- ---- the machine: a state, the events that it meets, and what the last of them answers or leaves
 

@@ -1,8 +1,8 @@
 // The number coding. A limit is 0 for schedules, any other number for scan tables. Each call gives 0 or the refusal's number.
 ghost use mathlib.Core.Path.{_≡_};
 ghost use lib.ListN.{length};
-ghost use Rattle.numbers.specs.Coding.{readNumber, form, writeAnswer, afterWrite};
-ghost use Rattle.test_calls.specs.Words.{limitOf, readNo, readValue, readNext, writeNo, writeNext};
+ghost use Rattle.numbers.specs.Coding.{readNumber, form, writeAnswer, afterWrite, readNo, readValue, readNext, writtenNo, writtenNext};
+ghost use Rattle.test_calls.specs.Words.{limitOf};
 use numbers::Limit;
 use numbers::Read;
 use numbers::Written;
@@ -53,7 +53,7 @@ pub extern "C" fn test_write_number(
     limit: u32,
     next: &mut usize,
 ) -> u8
-    ensures { λ r. ⌜ (r ≡ writeNo (writeAnswer (limitOf limit) value (now (buffer .entry)) at)) × (now (buffer .exit) ≡ afterWrite (limitOf limit) value (now (buffer .entry)) at) × (now (next .exit) ≡ writeNext (writeAnswer (limitOf limit) value (now (buffer .entry)) at) (now (next .entry))) ⌝ }
+    ensures { λ r. ⌜ (r ≡ writtenNo (writeAnswer (limitOf limit) value (now (buffer .entry)) at)) × (now (buffer .exit) ≡ afterWrite (limitOf limit) value (now (buffer .entry)) at) × (now (next .exit) ≡ writtenNext (writeAnswer (limitOf limit) value (now (buffer .entry)) at) (now (next .entry))) ⌝ }
 {
     let answer = numbers::write_number(buffer, at, value, limit_of(limit));
     match answer {

@@ -2,14 +2,14 @@
 // Each call gives 0 or the refusal's number, and on a refusal the four keep what they held.
 ghost use mathlib.Core.Path.{_≡_};
 ghost use Rattle.scan_table.specs.Table.{readTable};
-ghost use Rattle.shelf.specs.Shelf.{whereIs, whereIsWritten, shelfNo};
-ghost use Rattle.test_calls.specs.Words.{scansOf, shelfNumbers};
+ghost use Rattle.shelf.specs.Shelf.{whereIs, whereIsWritten, askedNo, shelfNumbers};
+ghost use Rattle.test_calls.specs.Words.{scansOf};
 use sets::scans::Scans;
 use shelf::Shelf;
 
 // The number of an answer, and its four numbers.
 fn told(answer: Shelf, numbers: &mut [u64; 4]) -> u8
-    ensures { λ r. ⌜ (r ≡ shelfNo answer) × (now (numbers .exit) ≡ shelfNumbers answer (now (numbers .entry))) ⌝ }
+    ensures { λ r. ⌜ (r ≡ askedNo answer) × (now (numbers .exit) ≡ shelfNumbers answer (now (numbers .entry))) ⌝ }
 {
     match answer {
         Shelf::Nowhere => {
@@ -26,7 +26,7 @@ fn told(answer: Shelf, numbers: &mut [u64; 4]) -> u8
 
 #[no_mangle]
 pub extern "C" fn test_where_is(fields: &[u64], set: u64, tag: u64, numbers: &mut [u64; 4]) -> u8
-    ensures { λ r. ⌜ (r ≡ shelfNo (whereIs (now (fields .entry)) (scansOf set) tag)) × (now (numbers .exit) ≡ shelfNumbers (whereIs (now (fields .entry)) (scansOf set) tag) (now (numbers .entry))) ⌝ }
+    ensures { λ r. ⌜ (r ≡ askedNo (whereIs (now (fields .entry)) (scansOf set) tag)) × (now (numbers .exit) ≡ shelfNumbers (whereIs (now (fields .entry)) (scansOf set) tag) (now (numbers .entry))) ⌝ }
 {
     let answer = shelf::where_is(fields, Scans { bits: set }, tag);
     told(answer, numbers)
@@ -39,7 +39,7 @@ pub extern "C" fn test_where_is_written(
     tag: u64,
     numbers: &mut [u64; 4],
 ) -> u8
-    ensures { λ r. ⌜ (r ≡ shelfNo (whereIsWritten (readTable (now (bytes .entry))) (scansOf set) tag)) × (now (numbers .exit) ≡ shelfNumbers (whereIsWritten (readTable (now (bytes .entry))) (scansOf set) tag) (now (numbers .entry))) ⌝ }
+    ensures { λ r. ⌜ (r ≡ askedNo (whereIsWritten (readTable (now (bytes .entry))) (scansOf set) tag)) × (now (numbers .exit) ≡ shelfNumbers (whereIsWritten (readTable (now (bytes .entry))) (scansOf set) tag) (now (numbers .entry))) ⌝ }
 {
     let answer = shelf::where_is_written(bytes, Scans { bits: set }, tag);
     told(answer, numbers)

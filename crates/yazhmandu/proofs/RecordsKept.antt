@@ -12,20 +12,20 @@ use Rattle.sets.specs.Scans.{fits}
 use Rattle.sets.specs.declared.scans.Scans.{Scans}
 use Rattle.sizes.specs.Sizes.{between, sizesInRange}
 use Rattle.model.specs.Records.{announcement}
-use Rattle.model.specs.Rules.{accepts, accepting, refusing, answering, buffering, isCurrent, acknowledging, rejecting, proposeNo, proposing, refineNo, refining, deciding, mayPropose, mayRefine, listening}
+use Rattle.model.specs.Rules.{accepts, accepting, gaining, answering, buffering, isCurrent, acknowledging, rejecting, proposeNo, proposing, refineNo, refining, decideNo, deciding, mayPropose, mayRefine, listening}
 use Rattle.model.specs.Ranges.{acceptorInRange, proposerInRange, learnerInRange, fieldsInRange}
 use Rattle.model.specs.Table.{Announcement}
-use Rattle.model.specs.Tests.{_unless_, _⨾_}
+use Rattle.choice.specs.Tests.{_unless_, _⨾_}
 use Rattle.model.specs.declared.Acceptor.{Acceptor}
 use Rattle.model.specs.declared.Proposer.{Proposer}
-use Rattle.model.proofs.Cases.{if-ind, and-l, and-r, test-passed, rest-passed}
+use Rattle.choice.proofs.Tests.{if-ind, and-l, and-r, test-passed, rest-passed}
 use Rattle.model.proofs.Enabled.{below-greatest}
-use Rattle.model.proofs.RuleRanges.{accepting-range, refusing-range, buffering-range, acknowledging-range, rejecting-range, proposing-range, refining-range, deciding-range, listening-range}
+use Rattle.model.proofs.RuleRanges.{accepting-range, gaining-range, buffering-range, acknowledging-range, rejecting-range, proposing-range, refining-range, deciding-range, listening-range}
 use Rattle.layouts.specs.Layout.{sizesOf, setAt, isSet, isAnswer, isAcceptor, acceptorAt, acceptorBytes, isProposer, proposerAt, proposerBytes, isLearner, learnerAt, learnerBytes}
 use Rattle.layouts.proofs.Parts.{proposer-sizes, learner-sizes, few-proposers, answer-acceptor}
 use Rattle.layouts.proofs.Places.{eight-listening}
 use Rattle.layouts.proofs.Passing.{acceptor-passes, proposer-passes, learner-passes, set-fits, proposer-range}
-use Rattle.yazhmandu.specs.Calls.{leaves, answerNo, answerRecord, bufferNo, bufferRecord, acknowledgedNo, acknowledgedRecord, rejectedNo, rejectedRecord, proposeCallNo, proposeRecord, refineCallNo, refineRecord, decideCallNo, decideRecord, hearNo, hearRecord}
+use Rattle.yazhmandu.specs.Calls.{unlessRefused, proposalNo, answerRecord, bufferNo, bufferRecord, acknowledgedNo, acknowledgedRecord, rejectedNo, rejectedRecord, callNo, callRecord, hearNo, hearRecord}
 
 -- ---- the acceptor's call
 
@@ -36,10 +36,10 @@ module _ (s : ℕ) (kept set : List ℕ) (x : isAcceptor s kept ≡ true) where
       let z = sizesOf 1 1 s in
       let q = acceptorAt kept in
       let r : acceptorInRange z q ≡ true = search (and-l, and-r) depth 9 in
-      if-ind (λ (t : Acceptor). acceptorInRange z t ≡ true) (accepts q v) (accepting q v) (refusing q v) (λ _. accepting-range z q v f) (λ _. refusing-range z q v r f)
+      if-ind (λ (t : Acceptor). acceptorInRange z t ≡ true) (accepts q v) (accepting q v) (gaining q v) (λ _. accepting-range z q v f) (λ _. gaining-range z q v r f)
 
-  answer-set : answerNo s kept set ≡ 0 → isSet s set ≡ true
-  unfolding answerNo
+  answer-set : proposalNo s kept set ≡ 0 → isSet s set ≡ true
+  unfolding proposalNo
   answer-set n = test-passed 2 (isSet s set) (5 unless acceptorAt kept .alive ⨾ 0) (rest-passed 0 (isAcceptor s kept) _ n)
 
   pub answer-keeps : isAcceptor s (answerRecord s kept set) ≡ true
@@ -47,7 +47,7 @@ module _ (s : ℕ) (kept set : List ℕ) (x : isAcceptor s kept ≡ true) where
   answer-keeps =
       let e : sizesInRange (sizesOf 1 1 s) ≡ true = search (and-l, and-r) depth 9 in
       let q = answering (acceptorAt kept) (setAt set 0) in
-      if-ind (λ (l : List ℕ). isAcceptor s l ≡ true) (eqb (answerNo s kept set) 0) (acceptorBytes q) kept
+      if-ind (λ (l : List ℕ). isAcceptor s l ≡ true) (eqb (proposalNo s kept set) 0) (acceptorBytes q) kept
       (λ o. acceptor-passes s q e (answering-range (setAt set 0) (set-fits s set (answer-set (eqb-true _ _ o)))))
       (λ _. x)
 
@@ -61,14 +61,14 @@ module _ (a s : ℕ) (kept : List ℕ) (x : isProposer a s kept ≡ true) where
   range-kept = proposer-range a s kept x
 
   -- what a call leaves passes, if what it writes where it gives 0 is in range
-  leaves-passes : (n : ℕ) (p : Proposer) → (n ≡ 0 → proposerInRange (sizesOf 1 a s) p ≡ true) → isProposer a s (leaves n (proposerBytes p) kept) ≡ true
+  leaves-passes : (n : ℕ) (p : Proposer) → (n ≡ 0 → proposerInRange (sizesOf 1 a s) p ≡ true) → isProposer a s (unlessRefused n (proposerBytes p) kept) ≡ true
   leaves-passes n p h =
       if-ind (λ (l : List ℕ). isProposer a s l ≡ true) (eqb n 0) (proposerBytes p) kept
       (λ o. proposer-passes a s p sizes-kept (h (eqb-true n 0 o)))
       (λ _. x)
 
   -- and so where an answer that is late leaves the record
-  answer-passes : (n : ℕ) (t : Bool) (p : Proposer) → (n ≡ 0 → proposerInRange (sizesOf 1 a s) p ≡ true) → isProposer a s (leaves n (if t then proposerBytes p else kept) kept) ≡ true
+  answer-passes : (n : ℕ) (t : Bool) (p : Proposer) → (n ≡ 0 → proposerInRange (sizesOf 1 a s) p ≡ true) → isProposer a s (unlessRefused n (if t then proposerBytes p else kept) kept) ≡ true
   answer-passes n true p h = leaves-passes n p h
   answer-passes n false p h = if-ind (λ (l : List ℕ). isProposer a s l ≡ true) (eqb n 0) kept kept (λ _. x) (λ _. x)
 
@@ -105,23 +105,25 @@ module _ (a s : ℕ) (kept : List ℕ) (x : isProposer a s kept ≡ true) where
       answer-passes (rejectedNo a s kept j n set) (isCurrent (proposerAt kept) n) (rejecting (proposerAt kept) j (setAt set 0))
       (λ o. rejecting-range (sizesOf 1 a s) (proposerAt kept) range-kept j (setAt set 0) (answer-acceptor a j n (rejected-tests j n set o .0)) (set-fits s set (rejected-tests j n set o .1)))
 
-  pub propose-keeps : isProposer a s (proposeRecord a s kept) ≡ true
-  unfolding proposeRecord proposeCallNo proposeNo
+  -- a rule leaves a record that passes, if what it does where it does not refuse is in range
+  rule-keeps : (ruleNo : Proposer → ℕ) (rule : Proposer → Proposer) → (ruleNo (proposerAt kept) ≡ 0 → proposerInRange (sizesOf 1 a s) (rule (proposerAt kept)) ≡ true) → isProposer a s (callRecord a s kept ruleNo rule) ≡ true
+  unfolding callNo callRecord
+  rule-keeps ruleNo rule h = leaves-passes (callNo a s kept ruleNo) (rule (proposerAt kept)) (λ o. h (rest-passed 0 (isProposer a s kept) (ruleNo (proposerAt kept)) o))
+
+  pub propose-keeps : isProposer a s (callRecord a s kept proposeNo proposing) ≡ true
+  unfolding proposeNo
   propose-keeps =
       let p = proposerAt kept in
-      leaves-passes (proposeCallNo a s kept) (proposing p)
-      (λ o. proposing-range (sizesOf 1 a s) p range-kept (below-greatest (p .alive) (mayPropose p) (p .number) (rest-passed 0 (isProposer a s kept) (proposeNo p) o)))
+      rule-keeps proposeNo proposing (λ o. proposing-range (sizesOf 1 a s) p range-kept (below-greatest (p .alive) (mayPropose p) (p .number) o))
 
-  pub refine-keeps : isProposer a s (refineRecord a s kept) ≡ true
-  unfolding refineRecord refineCallNo refineNo
+  pub refine-keeps : isProposer a s (callRecord a s kept (refineNo a) refining) ≡ true
+  unfolding refineNo
   refine-keeps =
       let p = proposerAt kept in
-      leaves-passes (refineCallNo a s kept) (refining p)
-      (λ o. refining-range (sizesOf 1 a s) p range-kept (below-greatest (p .alive) (mayRefine a p) (p .number) (rest-passed 0 (isProposer a s kept) (refineNo a p) o)))
+      rule-keeps (refineNo a) refining (λ o. refining-range (sizesOf 1 a s) p range-kept (below-greatest (p .alive) (mayRefine a p) (p .number) o))
 
-  pub decide-keeps : isProposer a s (decideRecord a s kept) ≡ true
-  unfolding decideRecord
-  decide-keeps = leaves-passes (decideCallNo a s kept) (deciding (proposerAt kept)) (λ _. deciding-range (sizesOf 1 a s) (proposerAt kept) range-kept)
+  pub decide-keeps : isProposer a s (callRecord a s kept (decideNo a) deciding) ≡ true
+  decide-keeps = rule-keeps (decideNo a) deciding (λ _. deciding-range (sizesOf 1 a s) (proposerAt kept) range-kept)
 
 -- ---- the learner's call
 

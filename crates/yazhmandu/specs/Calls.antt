@@ -1,42 +1,29 @@
 -- What each call gives, and leaves in the lent bytes, by what they held at entry.
-use mathlib.Core.List.{List, [], _∷_}
+use mathlib.Core.List.{List}
 use Prim.Native.Nat.{ℕ}
 use lib.Dec.{eqb, ltb}
 use lib.ListN.{length}
 use Rattle.choice.specs.Choice.{if_then_else_}
-use Rattle.numbers.specs.declared.Written.{Written}
-use Rattle.numbers.specs.declared.Written.the-variants as written
 use Rattle.forms.specs.Forms.{Outcome, got, refused}
 use Rattle.scan_table.specs.Table.{readTable}
 use Rattle.shelf.specs.Shelf.{whereIsWritten, refusedShelf}
 use Rattle.shelf.specs.declared.Shelf.{Shelf}
 use Rattle.shelf.specs.declared.Shelf.the-variants as shelf
-use Rattle.model.specs.Tests.{_unless_, _⨾_, ok}
-use Rattle.model.specs.Rules.{accepts, answering, buffering, isCurrent, acknowledging, rejecting, proposeNo, proposing, refineNo, refining, decideNo, deciding, learns, listening}
+use Rattle.choice.specs.Tests.{_unless_, _⨾_, ok}
+use Rattle.model.specs.Rules.{accepts, answering, buffering, isCurrent, acknowledging, rejecting, learns, listening}
 use Rattle.model.specs.Table.{Announcement}
+use Rattle.model.specs.declared.Proposer.{Proposer}
 use Rattle.layouts.specs.Layout.{setAt, isSet, isAnswer, flagged, isAcceptor, acceptorAt, acceptorBytes, isProposer, proposerAt, proposerBytes, isLearner, learnerAt, learnerBytes}
 
 -- lent bytes after a call that gave a number: new ones where it was not refused
-abbrev pub leaves : ℕ → List ℕ → List ℕ → List ℕ
-leaves n new old = if eqb n 0 then new else old
+abbrev pub unlessRefused : ℕ → List ℕ → List ℕ → List ℕ
+unlessRefused n new old = if eqb n 0 then new else old
 
 -- ---- the readers' verdict on bytes
 
 unfoldable pub verdict : Outcome → ℕ
 verdict (got vs next) = 0
 verdict (refused r) = r .no
-
--- ---- the run printer's text
-
--- 0 for a text that was written, or the refusal's number
-abbrev pub writtenNo : Written → ℕ
-writtenNo (written.Next n) = 0
-writtenNo (written.Refused r) = r .no
-
--- the text's length; a refusal leaves what stood there before
-abbrev pub writtenLength : Written → ℕ → ℕ
-writtenLength (written.Next n) old = n
-writtenLength (written.Refused r) old = old
 
 -- ---- the shelf question
 
@@ -51,17 +38,11 @@ whereIsBytes table set tag =
     then whereIsWritten (readTable table) (setAt set 0) tag
     else unasked (readTable table)
 
--- whether a scan is shown, its number, its shelf and its time; a refusal leaves what stood there before
-abbrev pub shelfNumbers : Shelf → List ℕ → List ℕ
-shelfNumbers shelf.Nowhere old = 0 ∷ 0 ∷ 0 ∷ 0 ∷ []
-shelfNumbers (shelf.Shown scan place time) old = 1 ∷ scan .0 ∷ place ∷ time ∷ []
-shelfNumbers (shelf.Refused r) old = old
-
 -- ---- a proposal's set at an acceptor's record
 
 -- 1 for S and the record, 3 for the set, 5 it has crashed
-unfoldable pub answerNo : ℕ → List ℕ → List ℕ → ℕ
-answerNo s kept set =
+unfoldable pub proposalNo : ℕ → List ℕ → List ℕ → ℕ
+proposalNo s kept set =
     1 unless isAcceptor s kept
     ⨾ 3 unless isSet s set
     ⨾ 5 unless acceptorAt kept .alive
@@ -69,13 +50,13 @@ answerNo s kept set =
 
 unfoldable pub answerRecord : ℕ → List ℕ → List ℕ → List ℕ
 answerRecord s kept set =
-    leaves (answerNo s kept set) (acceptorBytes (answering (acceptorAt kept) (setAt set 0))) kept
+    unlessRefused (proposalNo s kept set) (acceptorBytes (answering (acceptorAt kept) (setAt set 0))) kept
 
 -- whether it is accepted, and the set to send
 unfoldable pub answerReply : ℕ → List ℕ → List ℕ → List ℕ → List ℕ
 answerReply s kept set old =
-    leaves
-    (answerNo s kept set)
+    unlessRefused
+    (proposalNo s kept set)
     (flagged (accepts (acceptorAt kept) (setAt set 0)) (answering (acceptorAt kept) (setAt set 0) .accepted))
     old
 
@@ -91,7 +72,7 @@ bufferNo a s kept set =
 
 unfoldable pub bufferRecord : ℕ → ℕ → List ℕ → List ℕ → List ℕ
 bufferRecord a s kept set =
-    leaves (bufferNo a s kept set) (proposerBytes (buffering (proposerAt kept) (setAt set 0))) kept
+    unlessRefused (bufferNo a s kept set) (proposerBytes (buffering (proposerAt kept) (setAt set 0))) kept
 
 -- an acknowledgement: 1, then 3 for the acceptor and the number, 5
 unfoldable pub acknowledgedNo : ℕ → ℕ → List ℕ → ℕ → ℕ → ℕ
@@ -104,7 +85,7 @@ acknowledgedNo a s kept acceptor number =
 -- a late one leaves the record
 unfoldable pub acknowledgedRecord : ℕ → ℕ → List ℕ → ℕ → ℕ → List ℕ
 acknowledgedRecord a s kept acceptor number =
-    leaves
+    unlessRefused
     (acknowledgedNo a s kept acceptor number)
     (if isCurrent (proposerAt kept) number then proposerBytes (acknowledging (proposerAt kept) acceptor) else kept)
     kept
@@ -120,31 +101,17 @@ rejectedNo a s kept acceptor number set =
 
 unfoldable pub rejectedRecord : ℕ → ℕ → List ℕ → ℕ → ℕ → List ℕ → List ℕ
 rejectedRecord a s kept acceptor number set =
-    leaves
+    unlessRefused
     (rejectedNo a s kept acceptor number set)
     (if isCurrent (proposerAt kept) number then proposerBytes (rejecting (proposerAt kept) acceptor (setAt set 0)) else kept)
     kept
 
--- Propose: 1, then 5, 6 and 7 by its rule
-unfoldable pub proposeCallNo : ℕ → ℕ → List ℕ → ℕ
-proposeCallNo a s kept = 1 unless isProposer a s kept ⨾ proposeNo (proposerAt kept)
+-- Propose, Refine and Decide, by what the rule refuses and what it does: 1, then the rule's refusals
+unfoldable pub callNo : ℕ → ℕ → List ℕ → (Proposer → ℕ) → ℕ
+callNo a s kept ruleNo = 1 unless isProposer a s kept ⨾ ruleNo (proposerAt kept)
 
-unfoldable pub proposeRecord : ℕ → ℕ → List ℕ → List ℕ
-proposeRecord a s kept = leaves (proposeCallNo a s kept) (proposerBytes (proposing (proposerAt kept))) kept
-
--- Refine
-unfoldable pub refineCallNo : ℕ → ℕ → List ℕ → ℕ
-refineCallNo a s kept = 1 unless isProposer a s kept ⨾ refineNo a (proposerAt kept)
-
-unfoldable pub refineRecord : ℕ → ℕ → List ℕ → List ℕ
-refineRecord a s kept = leaves (refineCallNo a s kept) (proposerBytes (refining (proposerAt kept))) kept
-
--- Decide: 1, then 5 and 6
-unfoldable pub decideCallNo : ℕ → ℕ → List ℕ → ℕ
-decideCallNo a s kept = 1 unless isProposer a s kept ⨾ decideNo a (proposerAt kept)
-
-unfoldable pub decideRecord : ℕ → ℕ → List ℕ → List ℕ
-decideRecord a s kept = leaves (decideCallNo a s kept) (proposerBytes (deciding (proposerAt kept))) kept
+unfoldable pub callRecord : ℕ → ℕ → List ℕ → (Proposer → ℕ) → (Proposer → Proposer) → List ℕ
+callRecord a s kept ruleNo rule = unlessRefused (callNo a s kept ruleNo) (proposerBytes (rule (proposerAt kept))) kept
 
 -- ---- an acknowledgement at a learner's record
 
@@ -160,7 +127,7 @@ hearNo p a s kept proposer acceptor number set =
 
 unfoldable pub hearRecord : ℕ → ℕ → ℕ → List ℕ → ℕ → ℕ → ℕ → List ℕ → List ℕ
 hearRecord p a s kept proposer acceptor number set =
-    leaves
+    unlessRefused
     (hearNo p a s kept proposer acceptor number set)
     (learnerBytes p (listening a (learnerAt p kept) (Announcement proposer acceptor number (setAt set 0) 0)))
     kept

@@ -1,6 +1,6 @@
 // The acceptor's rule on its record.
 ghost use mathlib.Core.Path.{_≡_};
-ghost use Rattle.yazhmandu.specs.Calls.{answerNo, answerRecord, answerReply};
+ghost use Rattle.yazhmandu.specs.Calls.{proposalNo, answerRecord, answerReply};
 use layouts::acceptors::acceptor_at;
 use layouts::acceptors::is_acceptor;
 use layouts::fields::is_set;
@@ -16,7 +16,7 @@ pub extern "C" fn ymd_answer_proposal(
     set: &[u8],
     reply: &mut [u8; 9],
 ) -> u8
-    ensures { λ r. ⌜ (r ≡ answerNo scans (now (kept .entry)) (now (set .entry))) × (now (kept .exit) ≡ answerRecord scans (now (kept .entry)) (now (set .entry))) × (now (reply .exit) ≡ answerReply scans (now (kept .entry)) (now (set .entry)) (now (reply .entry))) ⌝ }
+    ensures { λ r. ⌜ (r ≡ proposalNo scans (now (kept .entry)) (now (set .entry))) × (now (kept .exit) ≡ answerRecord scans (now (kept .entry)) (now (set .entry))) × (now (reply .exit) ≡ answerReply scans (now (kept .entry)) (now (set .entry)) (now (reply .entry))) ⌝ }
 {
     if !is_acceptor(kept, scans) {
         return 1;

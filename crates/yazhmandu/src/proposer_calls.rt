@@ -1,7 +1,8 @@
 // The rules of a proposer on its record.
 // Each call takes the run's numbers of acceptors and of scans. 1 for these and the record, 3 for the arguments, then 5, 6 and 7 as the rule has them.
 ghost use mathlib.Core.Path.{_≡_};
-ghost use Rattle.yazhmandu.specs.Calls.{bufferNo, bufferRecord, acknowledgedNo, acknowledgedRecord, rejectedNo, rejectedRecord, proposeCallNo, proposeRecord, refineCallNo, refineRecord, decideCallNo, decideRecord};
+ghost use Rattle.model.specs.Rules.{proposeNo, proposing, refineNo, refining, decideNo, deciding};
+ghost use Rattle.yazhmandu.specs.Calls.{bufferNo, bufferRecord, acknowledgedNo, acknowledgedRecord, rejectedNo, rejectedRecord, callNo, callRecord};
 use layouts::fields::is_answer;
 use layouts::fields::is_set;
 use layouts::fields::set_at;
@@ -95,7 +96,7 @@ pub extern "C" fn ymd_rejected(
 // Propose: the number and the set to send stand in the record.
 #[no_mangle]
 pub extern "C" fn ymd_propose(acceptors: u16, scans: u16, kept: &mut [u8]) -> u8
-    ensures { λ r. ⌜ (r ≡ proposeCallNo acceptors scans (now (kept .entry))) × (now (kept .exit) ≡ proposeRecord acceptors scans (now (kept .entry))) ⌝ }
+    ensures { λ r. ⌜ (r ≡ callNo acceptors scans (now (kept .entry)) proposeNo) × (now (kept .exit) ≡ callRecord acceptors scans (now (kept .entry)) proposeNo proposing) ⌝ }
 {
     if !is_proposer(kept, acceptors, scans) {
         return 1;
@@ -112,7 +113,7 @@ pub extern "C" fn ymd_propose(acceptors: u16, scans: u16, kept: &mut [u8]) -> u8
 // Refine: the number and the set to send stand in the record.
 #[no_mangle]
 pub extern "C" fn ymd_refine(acceptors: u16, scans: u16, kept: &mut [u8]) -> u8
-    ensures { λ r. ⌜ (r ≡ refineCallNo acceptors scans (now (kept .entry))) × (now (kept .exit) ≡ refineRecord acceptors scans (now (kept .entry))) ⌝ }
+    ensures { λ r. ⌜ (r ≡ callNo acceptors scans (now (kept .entry)) (refineNo acceptors)) × (now (kept .exit) ≡ callRecord acceptors scans (now (kept .entry)) (refineNo acceptors) refining) ⌝ }
 {
     if !is_proposer(kept, acceptors, scans) {
         return 1;
@@ -129,7 +130,7 @@ pub extern "C" fn ymd_refine(acceptors: u16, scans: u16, kept: &mut [u8]) -> u8
 // Decide: the decided set stands in the record.
 #[no_mangle]
 pub extern "C" fn ymd_decide(acceptors: u16, scans: u16, kept: &mut [u8]) -> u8
-    ensures { λ r. ⌜ (r ≡ decideCallNo acceptors scans (now (kept .entry))) × (now (kept .exit) ≡ decideRecord acceptors scans (now (kept .entry))) ⌝ }
+    ensures { λ r. ⌜ (r ≡ callNo acceptors scans (now (kept .entry)) (decideNo acceptors)) × (now (kept .exit) ≡ callRecord acceptors scans (now (kept .entry)) (decideNo acceptors) deciding) ⌝ }
 {
     if !is_proposer(kept, acceptors, scans) {
         return 1;

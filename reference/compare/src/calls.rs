@@ -44,8 +44,6 @@ mod c {
             next: *mut usize,
         ) -> u8;
 
-        pub fn test_scan_time(dock: u32, scan: u32, time: u64, out: *mut u64) -> u8;
-
         pub fn test_read_table(
             room: *mut u64,
             room_length: usize,
@@ -220,12 +218,6 @@ pub fn write_number(buffer: &mut [u8], at: usize, value: u64, limit: u32, next: 
     // SAFETY: the call writes `length` bytes from the slice's pointer at most,
     // and the cell; both are borrowed for the call.
     unsafe { c::test_write_number(buffer.as_mut_ptr(), buffer.len(), at, value, limit, next) }
-}
-
-/// The time of a scan: dock tick, scan tick, dock time.
-pub fn scan_time(dock: u32, scan: u32, time: u64, out: &mut u64) -> u8 {
-    // SAFETY: the call writes the cell only, which is borrowed for the call.
-    unsafe { c::test_scan_time(dock, scan, time, out) }
 }
 
 /// Reads a scan table into the room, four numbers for each scan: tag, shelf,

@@ -80,7 +80,7 @@ pub struct ScanTime {
 /// The proved function's answer.
 pub fn proved(dock: u32, scan: u32, time: u64) -> ScanTime {
     let mut out = BEFORE;
-    let answer = calls::scan_time(dock, scan, time, &mut out);
+    let answer = calls::site::clock(dock, scan, time, &mut out);
     ScanTime {
         answer,
         time: if out == BEFORE { None } else { Some(out) },

@@ -3,7 +3,8 @@
 
 #![forbid(unsafe_code)]
 
-use compare::machine::wrong::told::{every, Share, Told};
+use compare::machine::wrong::told::{every, Share, Told, REST};
+use compare::machine::wrong::SAME;
 
 fn main() {
     let mut share = Share::default();
@@ -12,14 +13,26 @@ fn main() {
         println!("{} {}:{}", marks(told), wrong.name, wrong.meaning);
         share.add(told);
     }
-    println!("{} of {} told apart", share.apart, share.machines);
+    println!("{} machines, {} told apart", share.machines, share.apart);
     println!("by printed lines: {}", share.printed);
-    println!("by answers and logs: {}", share.answers);
-    println!("by records and slots: {}", share.records);
     println!(
-        "by records and slots alone, lines, answers and logs the same: {}",
-        share.by_records_alone
+        "of those that print the same lines, by records and slots: {}",
+        share.by_records
     );
+    println!(
+        "of those that leave the same records and slots too, for every input, by answers or logs: {}",
+        share.by_answers
+    );
+    for (name, reason) in REST {
+        println!("  {name}: {reason}");
+    }
+    println!(
+        "not told apart, being the same for every input: {}",
+        share.machines - share.apart
+    );
+    for wrong in SAME {
+        println!("  {}:{}", wrong.name, wrong.meaning);
+    }
 }
 
 /// A column for each that tells a machine apart.

@@ -1,30 +1,30 @@
 -- `printer::answer_of` meets its contract. Assumes nothing.
 use borrow.Author.Tests.{eq-eqb, ne-eqb, lt-ltb, le-ltb}
-use Rattle.printer.specs.Log.{answerOf}
+use Rattle.printer.specs.Log.{readAnswerOf}
 use borrow.Author.Needs.{needs}
 use Rattle.printer.proofs.answer_of.Statement.{statement}
 use Rattle.printer.proofs.answer_of.Tie as tie
 
 returns : tie.Need-returns
-unfolding answerOf
+unfolding readAnswerOf
 returns c = simp (eq-eqb _ _ (c .if1 .taken))
 
 cast-t6 : tie.Need-cast-t6
 cast-t6 c = search needs
 
 returns-2 : tie.Need-returns-2
-unfolding answerOf
+unfolding readAnswerOf
 returns-2 c = simp (ne-eqb _ _ (c .before .if1 .left), lt-ltb _ _ (c .if2 .taken))
 
 cast-party : tie.Need-cast-party
 cast-party c = search needs
 
 returns-3 : tie.Need-returns-3
-unfolding answerOf
+unfolding readAnswerOf
 returns-3 c = simp (ne-eqb _ _ (c .before .before .if1 .left), le-ltb _ _ (c .before .if2 .left), lt-ltb _ _ (c .if3 .taken))
 
 returns-4 : tie.Need-returns-4
-unfolding answerOf
+unfolding readAnswerOf
 returns-4 c = simp (ne-eqb _ _ (c .before .before .if1 .left), le-ltb _ _ (c .before .if2 .left), le-ltb _ _ (c .if3 .left))
 
 pub answer-of-spec : {M : Type 1} → statement M

@@ -4,7 +4,6 @@ use mathlib.Core.List.{List}
 use Prim.Native.Nat.{ℕ, _*_, _≤_}
 use lib.ListN.{length, replicate, length-replicate}
 use borrow.Author.Needs.{needs}
-use Rattle.numbers.specs.declared.Written.{Written}
 use Rattle.printer.specs.Text.{putAnswer, afterPut}
 use Rattle.printer.specs.Printing.{textOfRun}
 use Rattle.printer.proofs.Printing.{ran, refused-printed}

@@ -2,20 +2,25 @@
 use mathlib.Core.Path.{sym, _∙_}
 use native.Mathlib.Omega.{arith}
 use borrow.Author.Tests.{not-true, not-false}
-use Rattle.scan_table.specs.Table.{scansIn}
-use Rattle.scan_table.proofs.Testing.{scans-ranged, table-uneven, table-unsized, table-whole}
+use Rattle.scan_table.specs.Table.{scansIn, testsOf}
+use Rattle.sizes.proofs.SizeLaws.{scans-ranged}
+use Rattle.scan_table.proofs.Testing.{table-uneven, table-unsized, table-whole}
 use borrow.Author.Needs.{needs}
 use Rattle.scan_table.proofs.table_no.Statement.{statement}
 use Rattle.scan_table.proofs.table_no.Tie as tie
 
 returns : tie.Need-returns
-returns c = sym (table-uneven (c .before .before .args .fields .now) (c .if1 .taken))
+returns c =
+    let a = c .before .before .args in
+    sym (table-uneven (testsOf (a .written)) (a .fields .now) (c .if1 .taken))
 
 scans-in-range-requires : tie.Need-scans-in-range-requires
 scans-in-range-requires c κs = search needs
 
 returns-2 : tie.Need-returns-2
-returns-2 c = sym (table-unsized (c .before .before .before .before .args .fields .now) (c .before .before .if1 .left) (sym (c .before .scans-in-range .ensures) ∙ not-true _ (c .if2 .taken)))
+returns-2 c =
+    let a = c .before .before .before .before .args in
+    sym (table-unsized (testsOf (a .written)) (a .fields .now) (c .before .before .if1 .left) (sym (c .before .scans-in-range .ensures) ∙ not-true _ (c .if2 .taken)))
 
 cast-scans-no : tie.Need-cast-scans-no
 cast-scans-no c = omega (arith, scans-ranged (scansIn (c .before .before .before .before .args .fields .now)) (sym (c .before .scans-in-range .ensures) ∙ not-false _ (c .if2 .left)))
@@ -25,8 +30,8 @@ scans-no-requires c κs = search needs
 
 returns-3 : tie.Need-returns-3
 returns-3 c =
-    let f = c .before .before .before .before .before .args .fields .now in
-    c .scans-no .ensures ∙ sym (table-whole f (c .before .before .before .if1 .left) (sym (c .before .before .scans-in-range .ensures) ∙ not-false _ (c .before .if2 .left)))
+    let a = c .before .before .before .before .before .args in
+    c .scans-no .ensures ∙ sym (table-whole (testsOf (a .written)) (a .fields .now) (c .before .before .before .if1 .left) (sym (c .before .before .scans-in-range .ensures) ∙ not-false _ (c .before .if2 .left)))
 
 pub table-no-spec : {M : Type 1} → statement M
 table-no-spec =

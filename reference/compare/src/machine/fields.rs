@@ -219,11 +219,13 @@ fn greatest(sizes: &Sizes, kind: u8) -> Message {
     message
 }
 
-fn has_proposer(kind: u8) -> bool {
+/// Whether a message of the kind names a proposer beside its addressee.
+pub fn has_proposer(kind: u8) -> bool {
     [PROPOSAL, ACKNOWLEDGEMENT_TO_LEARNER].contains(&kind.into())
 }
 
-fn has_acceptor(kind: u8) -> bool {
+/// Whether a message of the kind names an acceptor beside its addressee.
+pub fn has_acceptor(kind: u8) -> bool {
     [ACKNOWLEDGEMENT, REJECTION, ACKNOWLEDGEMENT_TO_LEARNER].contains(&kind.into())
 }
 

@@ -5,7 +5,7 @@ use reference::refusal::OUTSIDE_RANGE;
 use reference::rng::Rng;
 
 use super::drawn;
-use super::form::{Acceptor, Learner, Message, Proposer, Sizes};
+use super::form::Sizes;
 use super::lent::Lent;
 use super::second::Second;
 use super::sizes::{drawn_sizes, sizes_outside, SIZES};
@@ -47,10 +47,7 @@ fn compare<M: Machine>(
 /// numbers 0, slots free.
 fn made_fresh(lent: &Lent) -> Lent {
     let mut fresh = lent.clone();
-    fresh.proposers.lent_mut().fill(Proposer::FRESH);
-    fresh.acceptors.lent_mut().fill(Acceptor::FRESH);
-    fresh.learners.lent_mut().fill(Learner::FRESH);
-    fresh.slots.lent_mut().fill(Message::FREE);
+    fresh.make_fresh();
     fresh
 }
 

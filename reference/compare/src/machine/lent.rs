@@ -113,6 +113,14 @@ impl Lent {
         }
     }
 
+    /// Makes every lent place that of a fresh run.
+    pub fn make_fresh(&mut self) {
+        self.proposers.lent_mut().fill(Proposer::FRESH);
+        self.acceptors.lent_mut().fill(Acceptor::FRESH);
+        self.learners.lent_mut().fill(Learner::FRESH);
+        self.slots.lent_mut().fill(Message::FREE);
+    }
+
     /// The same with one of the slices a place longer or shorter, each by
     /// name; the place more is as in a fresh run.
     pub fn other_lengths(&self) -> Vec<(String, Lent)> {

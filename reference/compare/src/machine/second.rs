@@ -23,9 +23,9 @@ impl State {
         State { records, slots }
     }
 
-    /// The run of the lent records. No more of them are taken than the second
-    /// program has places for.
-    fn of(sizes: &Sizes, lent: &Lent) -> State {
+    /// The run of the lent records, within their ranges or not. No more of them
+    /// are taken than the second program has places for.
+    pub fn of(sizes: &Sizes, lent: &Lent) -> State {
         let mut records = Records {
             sizes: sizes.second(),
             proposers: Default::default(),
@@ -37,6 +37,23 @@ impl State {
         fill(&mut records.learners, lent.learners.lent());
         let slots = lent.slots.lent().iter().map(Record::second).collect();
         State { records, slots }
+    }
+
+    /// The run of the lent records; refused 1 where a size, a length or a field
+    /// is outside its range.
+    pub fn tested(sizes: &Sizes, lent: &Lent) -> Result<State, Refusal> {
+        if !lent.is_of(sizes) {
+            return Err(OUTSIDE_RANGE);
+        }
+        let state = State::of(sizes, lent);
+        state.test()?;
+        Ok(state)
+    }
+
+    /// Refused 1 where a size or a field is outside its range, or there are not
+    /// as many slots as the sizes say.
+    pub fn test(&self) -> Result<(), Refusal> {
+        machine::test_records(&self.records, &self.slots)
     }
 
     /// Puts the run's records and slots into the lent places.
@@ -55,6 +72,27 @@ impl State {
             &mut self.slots,
             event,
         ))
+    }
+
+    /// Does the first `n` of the events, each by `step`, and puts what they leave
+    /// into the lent places; refused 8 where there is no room for so many.
+    pub fn run(
+        mut self,
+        lent: &mut Lent,
+        events: &[u64],
+        log: &mut [u64],
+        n: u16,
+        step: fn(&mut State, &Event) -> [u64; LOG],
+    ) -> u8 {
+        if !has_room(events, log, n) {
+            return NO_ROOM;
+        }
+        let events = events.chunks_exact(EVENT).take(n.into());
+        for (event, said) in events.zip(log.chunks_exact_mut(LOG)) {
+            said.copy_from_slice(&step(&mut self, &event_of(event)));
+        }
+        self.store(lent);
+        0
     }
 
     /// The first of the lent records and slots that is not the run's.
@@ -96,6 +134,12 @@ pub fn said(result: Result<Outcome, Refusal>) -> [u64; LOG] {
     }
 }
 
+/// Whether there are the numbers of `n` events and of the log for them.
+pub fn has_room(events: &[u64], log: &[u64], n: u16) -> bool {
+    let n = usize::from(n);
+    events.len() >= EVENT * n && log.len() >= LOG * n
+}
+
 /// The event of three numbers.
 pub fn event_of(numbers: &[u64]) -> Event {
     Event {
@@ -125,22 +169,9 @@ impl Machine for Second {
     }
 
     fn run(sizes: Sizes, lent: &mut Lent, events: &[u64], log: &mut [u64], n: u16) -> u8 {
-        if !lent.is_of(&sizes) {
-            return OUTSIDE_RANGE;
+        match State::tested(&sizes, lent) {
+            Err(refusal) => refusal,
+            Ok(state) => state.run(lent, events, log, n, State::step),
         }
-        let mut state = State::of(&sizes, lent);
-        if let Err(refusal) = machine::test_records(&state.records, &state.slots) {
-            return refusal;
-        }
-        let n = usize::from(n);
-        if events.len() < EVENT * n || log.len() < LOG * n {
-            return NO_ROOM;
-        }
-        let events = events.chunks_exact(EVENT).take(n);
-        for (event, said) in events.zip(log.chunks_exact_mut(LOG)) {
-            said.copy_from_slice(&state.step(&event_of(event)));
-        }
-        state.store(lent);
-        0
     }
 }

@@ -32,17 +32,22 @@ macro_rules! wrong_run {
 #[macro_use]
 mod spoilt;
 
+mod acceptors;
+mod crashes;
 mod faults;
 mod fresh;
 mod learning;
+mod limits;
 mod logs;
 mod order;
-mod parties;
+mod proposers;
 mod ranges;
 mod runs;
 mod same;
 mod sending;
+mod sizes;
 pub mod told;
+mod untested;
 
 /// Changes that leave the machine as document 01 has it, for every input.
 pub use same::LIST as SAME;
@@ -97,13 +102,17 @@ impl Wrong {
 pub fn all() -> impl Iterator<Item = &'static Wrong> {
     let lists = [
         faults::LIST,
-        parties::LIST,
+        proposers::LIST,
+        acceptors::LIST,
         learning::LIST,
+        crashes::LIST,
         sending::LIST,
         order::LIST,
         logs::LIST,
         runs::LIST,
         ranges::LIST,
+        limits::LIST,
+        sizes::LIST,
         fresh::LIST,
     ];
     lists.into_iter().flatten()
@@ -121,7 +130,7 @@ enum Seen {
 }
 
 thread_local! {
-    static IN_PLACE: Cell<(Calls, Seen)> = Cell::new((Calls::TRUE, Seen::All));
+    static IN_PLACE: Cell<(Calls, Seen)> = const { Cell::new((Calls::TRUE, Seen::All)) };
 }
 
 /// The machine that this thread put into the archive's place.

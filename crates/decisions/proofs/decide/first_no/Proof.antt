@@ -1,7 +1,7 @@
 use mathlib.Core.Path.{_≡_, refl}
 use Prim.Native.Nat.{ℕ, zero, suc}
 use borrow.Author.Needs.{needs}
-use Rattle.model.specs.Tests.{refusal}
+use Rattle.choice.specs.Tests.{refusal}
 use Rattle.decisions.proofs.decide.first_no.Statement.{statement}
 use Rattle.decisions.proofs.decide.first_no.Tie as tie
 

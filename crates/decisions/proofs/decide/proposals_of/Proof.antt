@@ -1,6 +1,6 @@
 use native.Mathlib.Omega.{arith}
 use borrow.Author.Needs.{needs}
-use Rattle.decisions.proofs.Bounds.{bounds}
+use Rattle.sizes.proofs.SizeLaws.{bounds}
 use Rattle.decisions.proofs.decide.proposals_of.Statement.{statement}
 use Rattle.decisions.proofs.decide.proposals_of.Tie as tie
 

@@ -6,7 +6,7 @@ use native.Mathlib.Omega.{arith}
 use lib.ListN.{set}
 use borrow.Author.Needs.{needs}
 use Rattle.model.specs.declared.Heard.{Heard}
-use Rattle.layouts.specs.Layout.{placeOf, heardAt, placesAt, learnerAt}
+use Rattle.layouts.specs.Layout.{heardPlace, heardAt, placesAt, learnerAt}
 use Rattle.layouts.proofs.Places.{places, read-place, eight-left}
 use Rattle.layouts.proofs.learners.learner_at.Statement.{statement}
 use Rattle.layouts.proofs.learners.learner_at.Tie as tie
@@ -55,7 +55,7 @@ loop-again : tie.Need-loop-again Inv-loop μ-loop
 loop-again c =
     let s = c .before .before .before .before .before .before .before .before in
     let l = c .before .before .loop in
-    (search needs, l .inv .1, ap (λ (h : Heard). set (l .heard) (l .i) h) (c .heard-at .ensures) ∙ ap (λ (hs : List Heard). set hs (l .i) (heardAt (s .args .kept .now) (placeOf (l .i)))) (l .inv .2) ∙ read-place (l .i) (s .args .kept .now) (omega arith))
+    (search needs, l .inv .1, ap (λ (h : Heard). set (l .heard) (l .i) h) (c .heard-at .ensures) ∙ ap (λ (hs : List Heard). set hs (l .i) (heardAt (s .args .kept .now) (heardPlace (l .i)))) (l .inv .2) ∙ read-place (l .i) (s .args .kept .now) (omega arith))
 
 returns : tie.Need-returns Inv-loop μ-loop
 unfolding learnerAt

@@ -1,5 +1,5 @@
 use borrow.Author.Needs.{needs}
-use Rattle.layouts.specs.Layout.{placeOf}
+use Rattle.layouts.specs.Layout.{heardPlace}
 use Rattle.layouts.proofs.Places.{put-heard-fields}
 use Rattle.layouts.proofs.learners.put_heard.Statement.{statement}
 use Rattle.layouts.proofs.learners.put_heard.Tie as tie
@@ -31,7 +31,7 @@ same-length c = search needs
 returns : tie.Need-returns
 returns c =
     let s = c .before .before .before .before .before .before .before .before .before .before .before .before .before in
-    put-heard-fields (s .args .kept .now) (placeOf (s .args .proposer)) (s .args .heard) (c .before .before .before .before .before .before .before .before .before .before .put-number .ensures) (c .before .before .before .before .before .before .put-set .ensures) (c .before .before .put-acceptors .ensures)
+    put-heard-fields (s .args .kept .now) (heardPlace (s .args .proposer)) (s .args .heard) (c .before .before .before .before .before .before .before .before .before .before .put-number .ensures) (c .before .before .before .before .before .before .put-set .ensures) (c .before .before .put-acceptors .ensures)
 
 pub put-heard-spec : {M : Type 1} → statement M
 put-heard-spec =

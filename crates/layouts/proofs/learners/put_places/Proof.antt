@@ -10,7 +10,7 @@ use Rattle.sets.specs.Acceptors.{none}
 use Rattle.sets.specs.Scans.{empty}
 use Rattle.model.specs.Records.{unheard}
 use Rattle.model.proofs.Places.{eight-places}
-use Rattle.layouts.specs.Layout.{placeOf, heardBytes, placesBytes}
+use Rattle.layouts.specs.Layout.{heardPlace, heardBytes, placesBytes}
 use Rattle.layouts.proofs.Places.{put-place}
 use Rattle.layouts.proofs.learners.put_places.Statement.{statement}
 use Rattle.layouts.proofs.learners.put_places.Tie as tie
@@ -49,7 +49,7 @@ loop-again c =
     let s = c .before .before .before .before .before .before .before .before in
     let l = c .before .before .before .before .before .before .loop in
     let eight : length (s .args .t2 .heard) ≡ 8 = eight-places (s .args .t2) _ (s .good .1 .0) in
-    let e = c .before .before .put-heard .ensures ∙ ap (λ (b : List ℕ). sets b (placeOf (l .i)) (heardBytes (getD (s .args .t2 .heard) (l .i) unheard))) (l .inv .2) ∙ put-place (s .args .kept .now) (s .args .t2 .heard) (l .i) (omega arith) in
+    let e = c .before .before .put-heard .ensures ∙ ap (λ (b : List ℕ). sets b (heardPlace (l .i)) (heardBytes (getD (s .args .t2 .heard) (l .i) unheard))) (l .inv .2) ∙ put-place (s .args .kept .now) (s .args .t2 .heard) (l .i) (omega arith) in
     (search needs, ap length e ∙ simp length-sets, e)
 
 same-length : tie.Need-same-length Inv-loop μ-loop

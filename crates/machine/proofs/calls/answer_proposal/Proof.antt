@@ -44,7 +44,7 @@ use Rattle.model.specs.Rules as rule
 use Rattle.model.specs.declared.Acceptor.{Acceptor}
 use Rattle.model.proofs.Acceptor as Ac
 use Rattle.model.proofs.Acceptor.Laws as Ac′
-use Rattle.machine.proofs.Called.{calls-value}
+use Rattle.machine.proofs.CallsByValue.{calls-value}
 use Rattle.model.proofs.Acceptor.accepts as accepts
 use Rattle.model.proofs.Acceptor.accepts.Symbol as accepts-def
 use Rattle.model.proofs.Acceptor.accepts.Symbol.{name as #accepts}

@@ -38,9 +38,9 @@ use denote.Triple.Walked.{says, Stays, stay-none, stay-slice, walkOf, goes-none,
 use denote.Exit.{yes}
 use Rattle.model.specs.Records.{freshProposer, freshAcceptor, freshLearner, freeSlot}
 use Rattle.machine.specs.Calls.{turnsOf, sizedNo}
-use Rattle.machine.proofs.Again.{Slice, listAt}
-use Rattle.machine.proofs.Called.{calls-value}
-use Rattle.machine.proofs.LentCalls.{calls-lent}
+use Rattle.machine.proofs.Relending.{Slice, listAt}
+use Rattle.machine.proofs.CallsByValue.{calls-value}
+use Rattle.machine.proofs.CallsLending.{calls-lent}
 use Rattle.machine.proofs.Filling.{filled}
 use Rattle.machine.proofs.CallLaws.{refused-fresh, proposers-there, acceptors-there, learners-there, slots-there, fresh-proposers, fresh-acceptors, fresh-learners, fresh-slots}
 use Rattle.model.specs.declared.Proposer.{Proposer}

@@ -41,12 +41,12 @@ use Rattle.sizes.specs.Sizes.{sizesInRange}
 use Rattle.model.specs.Ranges.{all, proposerInRange, acceptorInRange, learnerInRange, messageInRange}
 use Rattle.machine.specs.Running.{Ran, driven, Drives}
 use Rattle.machine.specs.Calls.{lent as lent-as, lengthsAre, enoughOf, soundRunOf, turnsOf, afterRun, logAfterRun}
-use Rattle.machine.proofs.Again.{Slice, listAt}
-use Rattle.machine.proofs.Called.{calls-value}
-use Rattle.machine.proofs.Calling.{passed, lent, handed, calls}
-use Rattle.machine.proofs.LentCalls.{calls-shared}
+use Rattle.machine.proofs.Relending.{Slice, listAt}
+use Rattle.machine.proofs.CallsByValue.{calls-value}
+use Rattle.machine.proofs.CallsWithSlices.{passed, lent, handed, calls}
+use Rattle.machine.proofs.CallsLending.{calls-shared}
 use Rattle.machine.proofs.RunLaws.{Ends}
-use Rattle.machine.proofs.StepCalls.{run-refused, run-sound, run-left}
+use Rattle.machine.proofs.CallTests.{run-refused, run-sound, run-left}
 use Rattle.model.specs.declared.Proposer.{Proposer}
 use Rattle.model.proofs.Proposer as Pr
 use Rattle.model.specs.declared.Acceptor.{Acceptor}

@@ -44,12 +44,12 @@ use Rattle.model.specs.Step.{step}
 use Rattle.machine.specs.Stepping.{Left}
 use Rattle.machine.specs.Running.{timesOf, Repeats}
 use Rattle.machine.specs.Calls.{lent as lent-as, lengthsAre, soundOf, turnsOf}
-use Rattle.machine.proofs.Again.{Slice, listAt}
-use Rattle.machine.proofs.Called.{calls-value}
-use Rattle.machine.proofs.Calling.{passed, lent, calls}
-use Rattle.machine.proofs.LentCalls.{calls-shared}
+use Rattle.machine.proofs.Relending.{Slice, listAt}
+use Rattle.machine.proofs.CallsByValue.{calls-value}
+use Rattle.machine.proofs.CallsWithSlices.{passed, lent, calls}
+use Rattle.machine.proofs.CallsLending.{calls-shared}
 use Rattle.machine.proofs.StepLaws.{Agrees}
-use Rattle.machine.proofs.StepCalls.{step-sound, step-left}
+use Rattle.machine.proofs.CallTests.{step-sound, step-left}
 use Rattle.model.specs.declared.Proposer.{Proposer}
 use Rattle.model.proofs.Proposer as Pr
 use Rattle.model.specs.declared.Acceptor.{Acceptor}

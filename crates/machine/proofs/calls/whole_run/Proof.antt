@@ -43,10 +43,10 @@ use Rattle.model.specs.Records.{freshProposer, freshAcceptor, freshLearner, fre
 use Rattle.machine.specs.Slots.{takenSlot}
 use Rattle.machine.specs.Running.{Ran, driven, Drives}
 use Rattle.machine.specs.Calls.{enoughOf, wholeRunNo, turnsOf}
-use Rattle.machine.proofs.Again.{Slice, listAt}
-use Rattle.machine.proofs.Called.{calls-value}
-use Rattle.machine.proofs.Calling.{passed, lent, handed, calls}
-use Rattle.machine.proofs.LentCalls.{calls-lent}
+use Rattle.machine.proofs.Relending.{Slice, listAt}
+use Rattle.machine.proofs.CallsByValue.{calls-value}
+use Rattle.machine.proofs.CallsWithSlices.{passed, lent, handed, calls}
+use Rattle.machine.proofs.CallsLending.{calls-lent}
 use Rattle.machine.proofs.Locals.{copied, copied-typed, lends-own, takes-own}
 use Rattle.machine.proofs.Filling.{filled}
 use Rattle.machine.proofs.Longer.{whole-run-first, whole-run-drives, whole-run-log, slots-few}

@@ -43,8 +43,8 @@ use denote.Exit.{yes}
 use Rattle.model.specs.Records.{freeSlot}
 use Rattle.decisions.specs.Sending.{isTaken}
 use Rattle.machine.specs.Slots.{lowestFrom, FreeFrom}
-use Rattle.machine.proofs.Called.{calls-value}
-use Rattle.machine.proofs.Turns.{tests, Nearer, Nearer-wf, fits-place, below, falls}
+use Rattle.machine.proofs.CallsByValue.{calls-value}
+use Rattle.machine.proofs.WalkedLoops.{tests, Nearer, Nearer-wf, fits-place, below, falls}
 use Rattle.machine.proofs.Searching.{next-on, next-off, next-inside}
 use Rattle.model.specs.declared.Message.{Message}
 use Rattle.model.proofs.Message as Ms

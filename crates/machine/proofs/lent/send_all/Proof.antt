@@ -42,10 +42,10 @@ use Rattle.model.specs.Table.{post}
 use Rattle.decisions.specs.Sending.{itemOf, itemsOf}
 use Rattle.decisions.specs.declared.sending.Send.{Send}
 use Rattle.machine.specs.Slots.{lowestFrom, Ready}
-use Rattle.machine.proofs.Called.{calls-value}
-use Rattle.machine.proofs.Again.{Slice, listAt}
-use Rattle.machine.proofs.LentCalls.{calls-shared, calls-lent}
-use Rattle.machine.proofs.Turns.{tests, Nearer, Nearer-wf, fits-next, falls}
+use Rattle.machine.proofs.CallsByValue.{calls-value}
+use Rattle.machine.proofs.Relending.{Slice, listAt}
+use Rattle.machine.proofs.CallsLending.{calls-shared, calls-lent}
+use Rattle.machine.proofs.WalkedLoops.{tests, Nearer, Nearer-wf, fits-next, falls}
 use Rattle.machine.proofs.Posting.{Sends, begin, free, next, last}
 use Rattle.model.specs.declared.Message.{Message}
 use Rattle.model.proofs.Message as Ms

@@ -40,10 +40,10 @@ use denote.Triple.Walked.{says, needs, Stays, stay-none, stay-none-slice, stay-s
 use denote.Exit.{yes}
 use Rattle.machine.specs.Stepping.{Left, stepOf, Fits}
 use Rattle.machine.specs.Running.{eventOf, noted, Ran, onward, ranTo, driven, Drives}
-use Rattle.machine.proofs.Again.{Slice, listAt}
-use Rattle.machine.proofs.Calling.{passed, lent, handed, calls}
-use Rattle.machine.proofs.Rounds.{at-end, still-fit, event-there, answer-there, ran-none, ran-next}
-use Rattle.machine.proofs.Turns.{tests, Nearer, Nearer-wf, fits-next, falls}
+use Rattle.machine.proofs.Relending.{Slice, listAt}
+use Rattle.machine.proofs.CallsWithSlices.{passed, lent, handed, calls}
+use Rattle.machine.proofs.LoopsOverSteps.{at-end, still-fit, event-there, answer-there, ran-none, ran-next}
+use Rattle.machine.proofs.WalkedLoops.{tests, Nearer, Nearer-wf, fits-next, falls}
 use Rattle.model.specs.declared.Proposer.{Proposer}
 use Rattle.model.proofs.Proposer as Pr
 use Rattle.model.specs.declared.Acceptor.{Acceptor}

@@ -41,10 +41,10 @@ use denote.Exit.{yes}
 use Rattle.model.specs.declared.Answer.the-variants.{Refused}
 use Rattle.machine.specs.Stepping.{Left, stepOf, Fits}
 use Rattle.machine.specs.Running.{untouched, timesFrom, timesOf, Repeats}
-use Rattle.machine.proofs.Again.{Slice, listAt}
-use Rattle.machine.proofs.Calling.{passed, lent, calls}
-use Rattle.machine.proofs.Rounds.{at-end, fits-byte, still-fit, times-none, times-next}
-use Rattle.machine.proofs.Turns.{tests, Nearer, Nearer-wf, falls}
+use Rattle.machine.proofs.Relending.{Slice, listAt}
+use Rattle.machine.proofs.CallsWithSlices.{passed, lent, calls}
+use Rattle.machine.proofs.LoopsOverSteps.{at-end, fits-byte, still-fit, times-none, times-next}
+use Rattle.machine.proofs.WalkedLoops.{tests, Nearer, Nearer-wf, falls}
 use Rattle.model.specs.declared.Proposer.{Proposer}
 use Rattle.model.proofs.Proposer as Pr
 use Rattle.model.specs.declared.Acceptor.{Acceptor}

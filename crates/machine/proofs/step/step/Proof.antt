@@ -42,9 +42,9 @@ use Rattle.decisions.specs.Sending.{itemsOf, lacking}
 use Rattle.machine.specs.Slots.{Ready}
 use Rattle.decisions.specs.Change.{learnerAfter, slotAfter}
 use Rattle.machine.specs.Stepping.{within, partyOf, replyOf, theMessage, theProposer, theAcceptor, theLearner, theDecision, finished, Fits}
-use Rattle.machine.proofs.Again.{Slice, listAt}
-use Rattle.machine.proofs.Called.{calls-value}
-use Rattle.machine.proofs.LentCalls.{calls-shared, calls-lent}
+use Rattle.machine.proofs.Relending.{Slice, listAt}
+use Rattle.machine.proofs.CallsByValue.{calls-value}
+use Rattle.machine.proofs.CallsLending.{calls-shared, calls-lent}
 use Rattle.machine.proofs.Readiness.{proposer-there, acceptor-there, learner-there, slot-there, ready-after}
 use Rattle.model.specs.declared.Proposer.{Proposer}
 use Rattle.model.proofs.Proposer as Pr

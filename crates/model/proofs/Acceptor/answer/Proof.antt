@@ -1,6 +1,6 @@
 use mathlib.Core.Path.{sym, _∙_}
 use borrow.Author.Needs.{needs}
-use Rattle.model.specs.Rules.{accepting, refusing, answering}
+use Rattle.model.specs.Rules.{accepting, gaining, answering}
 use Rattle.model.proofs.Acceptor.answer.Statement.{statement}
 use Rattle.model.proofs.Acceptor.answer.Tie as tie
 
@@ -15,7 +15,7 @@ union-requires : tie.Need-union-requires
 union-requires c κs = search needs
 
 returns-2 : tie.Need-returns-2
-unfolding answering refusing
+unfolding answering gaining
 returns-2 c = simp (sym (c .before .before .accepts .ensures) ∙ c .before .if1 .left, c .union .ensures)
 
 pub answer-spec : {M : Type 1} → statement M

@@ -6,33 +6,12 @@ use Rattle.model.proofs.Learner.learns.Tie as tie
 heard-of-requires : tie.Need-heard-of-requires
 heard-of-requires c κs = search needs
 
-hear-requires : tie.Need-hear-requires
-hear-requires c κs = search needs
-
-is-majority-of-requires : tie.Need-is-majority-of-requires
-is-majority-of-requires c κs = search needs
-
-both-requires : tie.Need-both-requires
-both-requires c κs = search needs
-
-is-strictly-contained-in-requires : tie.Need-is-strictly-contained-in-requires
-is-strictly-contained-in-requires c κs = search needs
-
-both-requires-2 : tie.Need-both-requires-2
-both-requires-2 c κs = search needs
+teaches-requires : tie.Need-teaches-requires
+teaches-requires c κs = search needs
 
 returns : tie.Need-returns
 unfolding learns
-returns c = simp (c .both2 .ensures, c .before .is-strictly-contained-in .ensures, c .before .before .both .ensures, c .before .before .before .is-majority-of .ensures, c .before .before .before .before .before .before .hear .ensures, c .before .before .before .before .before .before .before .heard-of .ensures)
+returns c = simp (c .teaches .ensures, c .before .heard-of .ensures)
 
 pub learns-spec : {M : Type 1} → statement M
-learns-spec =
-    tie.close
-    (tie.spec
-    heard-of-requires
-    hear-requires
-    is-majority-of-requires
-    both-requires
-    is-strictly-contained-in-requires
-    both-requires-2
-    returns)
+learns-spec = tie.close (tie.spec heard-of-requires teaches-requires returns)

@@ -3,7 +3,7 @@ use lib.Dec.{ltb}
 use borrow.Author.Needs.{needs}
 use borrow.Author.Tests.{lt-ltb, le-ltb}
 use Rattle.model.specs.Rules.{greatestNumber}
-use Rattle.model.specs.Tests.{_unless_, _⨾_, ok}
+use Rattle.choice.specs.Tests.{_unless_, _⨾_, ok}
 use Rattle.model.proofs.Enabled.{refused, passed}
 use Rattle.model.proofs.proposers.numbered_no.Statement.{statement}
 use Rattle.model.proofs.proposers.numbered_no.Tie as tie

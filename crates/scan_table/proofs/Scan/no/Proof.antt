@@ -1,8 +1,7 @@
 -- `scan_table::Scan::no` meets its contract: each answer is the first refusal. Assumes nothing.
 use mathlib.Core.Path.{_≡_, sym, _∙_}
-use borrow.Author.Tests.{ne-eqb}
 use Rattle.scan_table.specs.Table.{tagNo, shelfNo, deviceNo, timeNo}
-use Rattle.scan_table.proofs.Testing.{four-no}
+use Rattle.scan_table.proofs.Testing.{four-no, stands}
 use borrow.Author.Needs.{needs}
 use Rattle.scan_table.proofs.Scan.no.Statement.{statement}
 use Rattle.scan_table.proofs.Scan.no.Tie as tie
@@ -15,7 +14,7 @@ returns c =
     let s = c .before .before .args .self in
     let q = four-no tagNo shelfNo deviceNo timeNo (s .tag) (s .shelf) (s .device) (s .time) in
     let t : c .before .tag-no .result ≡ tagNo (s .tag) = c .before .tag-no .ensures in
-    t ∙ sym (q ∙ rw (ne-eqb (tagNo (s .tag)) 0 (rw t at (c .if1 .taken))))
+    t ∙ sym (q ∙ stands (tagNo (s .tag)) _ (rw t at (c .if1 .taken)))
 
 shelf-no-requires : tie.Need-shelf-no-requires
 shelf-no-requires c κs = search needs
@@ -26,7 +25,7 @@ returns-2 c =
     let q = four-no tagNo shelfNo deviceNo timeNo (s .tag) (s .shelf) (s .device) (s .time) in
     let t : tagNo (s .tag) ≡ 0 = sym (c .before .before .before .tag-no .ensures) ∙ c .before .before .if1 .left in
     let u : c .before .shelf-no .result ≡ shelfNo (s .shelf) = c .before .shelf-no .ensures in
-    u ∙ sym (q ∙ rw (t, ne-eqb (shelfNo (s .shelf)) 0 (rw u at (c .if2 .taken))))
+    u ∙ sym (q ∙ rw t (stands (shelfNo (s .shelf)) _ (rw u at (c .if2 .taken))))
 
 device-no-requires : tie.Need-device-no-requires
 device-no-requires c κs = search needs
@@ -38,7 +37,7 @@ returns-3 c =
     let t : tagNo (s .tag) ≡ 0 = sym (c .before .before .before .before .before .tag-no .ensures) ∙ c .before .before .before .before .if1 .left in
     let u : shelfNo (s .shelf) ≡ 0 = sym (c .before .before .before .shelf-no .ensures) ∙ c .before .before .if2 .left in
     let v : c .before .device-no .result ≡ deviceNo (s .device) = c .before .device-no .ensures in
-    v ∙ sym (q ∙ rw (t, u, ne-eqb (deviceNo (s .device)) 0 (rw v at (c .if3 .taken))))
+    v ∙ sym (q ∙ rw (t, u) (stands (deviceNo (s .device)) _ (rw v at (c .if3 .taken))))
 
 time-no-requires : tie.Need-time-no-requires
 time-no-requires c κs = search needs

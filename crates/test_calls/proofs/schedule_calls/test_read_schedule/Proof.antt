@@ -1,6 +1,6 @@
 use mathlib.Core.Path.{_≡_}
 use denote.Ref.{now}
-use Rattle.schedule.specs.Schedule.{readSchedule, readAnswer}
+use Rattle.schedule.specs.Schedule.{numbersOf, readSchedule, readAnswer}
 use Rattle.schedule.specs.declared.ScheduleRead.the-variants as schedule
 use borrow.Author.Needs.{needs}
 use Rattle.test_calls.proofs.schedule_calls.test_read_schedule.Statement.{statement}
@@ -19,6 +19,7 @@ same-length : tie.Need-same-length
 same-length c = search needs
 
 returns : tie.Need-returns
+unfolding numbersOf
 returns c =
     let a = c .before .before .before .before .before .before .before .before .before .before .before .args in
     let g = c .before .before .before .answer .given .0 in

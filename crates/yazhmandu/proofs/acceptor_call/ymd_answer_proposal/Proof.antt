@@ -5,7 +5,7 @@ use Rattle.model.specs.Rules.{accepts, answering}
 use Rattle.model.specs.declared.Acceptor.{Acceptor}
 use Rattle.layouts.specs.Layout.{setAt, acceptorAt, acceptorBytes}
 use Rattle.layouts.proofs.Parts.{passed, failed, flagged-whole, acceptor-length}
-use Rattle.yazhmandu.specs.Calls.{answerNo, answerRecord, answerReply}
+use Rattle.yazhmandu.specs.Calls.{proposalNo, answerRecord, answerReply}
 use Rattle.yazhmandu.proofs.acceptor_call.ymd_answer_proposal.Statement.{statement}
 use Rattle.yazhmandu.proofs.acceptor_call.ymd_answer_proposal.Tie as tie
 
@@ -16,7 +16,7 @@ same-length : tie.Need-same-length
 same-length c = search needs
 
 returns : tie.Need-returns
-unfolding answerNo answerRecord answerReply
+unfolding proposalNo answerRecord answerReply
 returns c =
     let e = failed (c .before .is-acceptor .ensures) (c .if1 .taken) in
     (simp e, simp e, simp e)
@@ -28,7 +28,7 @@ same-length-2 : tie.Need-same-length-2
 same-length-2 c = search needs
 
 returns-2 : tie.Need-returns-2
-unfolding answerNo answerRecord answerReply
+unfolding proposalNo answerRecord answerReply
 returns-2 c =
     let e = passed (c .before .before .before .is-acceptor .ensures) (c .before .before .if1 .left) in
     let f = failed (c .before .is-set .ensures) (c .if2 .taken) in
@@ -41,7 +41,7 @@ same-length-3 : tie.Need-same-length-3
 same-length-3 c = search needs
 
 returns-3 : tie.Need-returns-3
-unfolding answerNo answerRecord answerReply
+unfolding proposalNo answerRecord answerReply
 returns-3 c =
     let t₂ = c .before .before .before .before in
     let t₁ = t₂ .before .before in
@@ -69,7 +69,7 @@ same-length-4 : tie.Need-same-length-4
 same-length-4 c = search needs
 
 returns-4 : tie.Need-returns-4
-unfolding acceptorBytes answerNo answerRecord answerReply
+unfolding acceptorBytes proposalNo answerRecord answerReply
 returns-4 c =
     let t₃ = c .before .before .before .before .before .before .before .before .before in
     let t₂ = t₃ .before .before .before .before in

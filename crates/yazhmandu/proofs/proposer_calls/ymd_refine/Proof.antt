@@ -1,9 +1,8 @@
-use mathlib.Core.Path.{sym, ap, _∙_}
+use mathlib.Core.Path.{ap, _∙_}
 use borrow.Author.Needs.{needs}
-use Rattle.model.specs.Rules.{refineNo, afterRefine}
-use Rattle.model.proofs.Enabled.{is-zero, not-zero}
-use Rattle.layouts.proofs.Parts.{passed, failed, proposer-whole}
-use Rattle.yazhmandu.specs.Calls.{refineCallNo, refineRecord}
+use Rattle.model.specs.Rules.{refineNo, refining, afterRefine}
+use Rattle.layouts.proofs.Parts.{passed, failed}
+use Rattle.yazhmandu.proofs.RuleCalls.{call-refused, rule-refused, rule-done}
 use Rattle.yazhmandu.proofs.proposer_calls.ymd_refine.Statement.{statement}
 use Rattle.yazhmandu.proofs.proposer_calls.ymd_refine.Tie as tie
 
@@ -14,10 +13,7 @@ same-length : tie.Need-same-length
 same-length c = search needs
 
 returns : tie.Need-returns
-unfolding refineCallNo refineRecord
-returns c =
-    let e = failed (c .before .is-proposer .ensures) (c .if1 .taken) in
-    (simp e, simp e)
+returns c = call-refused _ _ _ (refineNo _) refining (failed (c .before .is-proposer .ensures) (c .if1 .taken))
 
 proposer-at-requires : tie.Need-proposer-at-requires
 proposer-at-requires c κs = search needs
@@ -29,13 +25,12 @@ same-length-2 : tie.Need-same-length-2
 same-length-2 c = search needs
 
 returns-2 : tie.Need-returns-2
-unfolding refineCallNo refineRecord
 returns-2 c =
     let t₁ = c .before .before .before .before in
-    let s = t₁ .before .before .before .before in
-    let e = passed (t₁ .before .is-proposer .ensures) (t₁ .if1 .left) in
-    let n = c .before .refine-no .ensures ∙ ap (refineNo (s .args .acceptors)) (c .before .before .proposer-at .ensures) in
-    (simp e n, simp (e, not-zero n (c .if2 .taken)))
+    rule-refused _ _ _ (refineNo _) refining
+    (passed (t₁ .before .is-proposer .ensures) (t₁ .if1 .left))
+    (c .before .refine-no .ensures ∙ ap (refineNo _) (c .before .before .proposer-at .ensures))
+    (c .if2 .taken)
 
 refine-requires : tie.Need-refine-requires
 refine-requires c κs = search needs
@@ -47,15 +42,17 @@ same-length-3 : tie.Need-same-length-3
 same-length-3 c = search needs
 
 returns-3 : tie.Need-returns-3
-unfolding refineCallNo refineRecord afterRefine
+unfolding afterRefine
 returns-3 c =
     let t₂ = c .before .before .before .before .before in
     let t₁ = t₂ .before .before .before .before in
-    let s = t₁ .before .before .before .before in
-    let e = passed (t₁ .before .is-proposer .ensures) (t₁ .if1 .left) in
-    let n = t₂ .before .refine-no .ensures ∙ ap (refineNo (s .args .acceptors)) (t₂ .before .before .proposer-at .ensures) in
-    let z = is-zero n (t₂ .if2 .left) in
-    (simp e (sym (t₂ .if2 .left) ∙ n), simp (e, z) (c .before .before .put-proposer .ensures ∙ proposer-whole (s .args .acceptors) (s .args .scans) (s .args .kept .now) _ e ∙ simp (c .before .before .before .refine .ensures, t₂ .before .before .proposer-at .ensures, z)))
+    let p = t₂ .before .before .proposer-at .ensures in
+    rule-done _ _ _ (refineNo _) refining
+    (passed (t₁ .before .is-proposer .ensures) (t₁ .if1 .left))
+    (t₂ .before .refine-no .ensures ∙ ap (refineNo _) p)
+    (t₂ .if2 .left)
+    (c .before .before .before .refine .ensures ∙ ap (afterRefine _) p)
+    (c .before .before .put-proposer .ensures)
 
 pub ymd-refine-spec : {M : Type 1} → statement M
 ymd-refine-spec =

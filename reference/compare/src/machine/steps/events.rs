@@ -72,6 +72,24 @@ fn parties(sizes: &Sizes, role: u64) -> u64 {
     }
 }
 
+/// The Crash of the first party that is alive, which is ok whatever else the
+/// records and slots hold; of the first proposer where none is.
+pub fn crash_of_alive(lent: &Lent) -> [u64; EVENT] {
+    let proposer = lent.proposers.lent().iter().position(|p| p.alive.is_set());
+    let acceptor = lent.acceptors.lent().iter().position(|a| a.alive.is_set());
+    let learner = lent.learners.lent().iter().position(|l| l.alive.is_set());
+    let parties = [
+        (PROPOSER, proposer),
+        (ACCEPTOR, acceptor),
+        (LEARNER, learner),
+    ];
+    let mut alive = parties
+        .iter()
+        .filter_map(|(role, at)| at.map(|at| (*role, at)));
+    let (role, at) = alive.next().unwrap_or((PROPOSER, 0));
+    [CRASH, role, at as u64]
+}
+
 /// Any event: within the sizes, of another code, or past them.
 pub fn any_event(rng: &mut Rng, sizes: &Sizes, lent: &Lent) -> [u64; EVENT] {
     match rng.below(4) {

@@ -1,9 +1,11 @@
 //! Refusal 1: fields, lengths and sizes outside their ranges, before all else.
 
+use std::fmt::Display;
+
 use reference::refusal::UNKNOWN_CODE;
 use reference::rng::Rng;
 
-use super::events::any_event;
+use super::events::{any_event, crash_of_alive};
 use super::{compare_out_of_range, compare_refused, Call, REPEATS};
 use crate::machine::drawn::Within;
 use crate::machine::fields;
@@ -28,6 +30,22 @@ fn any_call<'a>(rng: &mut Rng, sizes: Sizes, event: &'a [u64; EVENT]) -> Call<'a
     }
 }
 
+/// The lent records are refused 1 by any call, and by a call that would be ok
+/// and change a record if they were not.
+fn compare_any_call<M: Machine>(
+    comparisons: &mut Comparisons,
+    rng: &mut Rng,
+    name: &dyn Display,
+    sizes: Sizes,
+    event: &[u64; EVENT],
+    lent: &Lent,
+) -> Result<(), String> {
+    let call = any_call(rng, sizes, event);
+    compare_out_of_range::<M>(comparisons, name, &call, lent)?;
+    let crash = crash_of_alive(lent);
+    compare_out_of_range::<M>(comparisons, name, &Call::one(sizes, &crash), lent)
+}
+
 /// Every field of every record and slot past its range: 1, before all else.
 pub fn fields_past<M: Machine>(rng: &mut Rng) -> Outcome {
     let mut comparisons = Comparisons::new();
@@ -37,8 +55,7 @@ pub fn fields_past<M: Machine>(rng: &mut Rng) -> Outcome {
             let mut lent = base.clone();
             change.make(&mut lent);
             let event = any_event(rng, &sizes, &base);
-            let call = any_call(rng, sizes, &event);
-            compare_out_of_range::<M>(&mut comparisons, &change.name, &call, &lent)?;
+            compare_any_call::<M>(&mut comparisons, rng, &change.name, sizes, &event, &lent)?;
         }
     }
     comparisons.made()
@@ -76,8 +93,7 @@ pub fn lengths<M: Machine>(rng: &mut Rng) -> Outcome {
             let base = Within::new(rng, &sizes).lent(rng);
             for (name, lent) in base.other_lengths() {
                 let event = any_event(rng, &sizes, &base);
-                let call = any_call(rng, sizes, &event);
-                compare_out_of_range::<M>(&mut comparisons, &name, &call, &lent)?;
+                compare_any_call::<M>(&mut comparisons, rng, &name, sizes, &event, &lent)?;
             }
         }
     }
@@ -92,8 +108,7 @@ pub fn sizes<M: Machine>(rng: &mut Rng) -> Outcome {
         for _ in 0..REPEATS {
             let code = rng.within(0, 9);
             let event = [code, rng.below(2), rng.below(2)];
-            let call = any_call(rng, sizes, &event);
-            compare_out_of_range::<M>(&mut comparisons, &"sizes", &call, &lent)?;
+            compare_any_call::<M>(&mut comparisons, rng, &"sizes", sizes, &event, &lent)?;
         }
     }
     comparisons.made()

@@ -1,12 +1,12 @@
 //! Faults of any kind: one thing of an event done wrongly.
 
 use reference::machine::{
-    ACKNOWLEDGEMENT, ACKNOWLEDGEMENT_TO_LEARNER, CRASH, DECIDE, DELIVER, DUPLICATE, FREE, INTERNAL,
-    PROPOSAL, PROPOSE, PROPOSER, RECEIVE, REFINE, REJECTION,
+    ACKNOWLEDGEMENT, ACKNOWLEDGEMENT_TO_LEARNER, DECIDE, DELIVER, DUPLICATE, FREE, INTERNAL,
+    PROPOSAL, PROPOSE, RECEIVE, REFINE, REJECTION,
 };
 
 use super::spoilt::is_ok;
-use crate::machine::form::{Flag, Message};
+use crate::machine::form::Message;
 
 faults! {
     /// Refuses every event.
@@ -155,12 +155,6 @@ faults! {
     /// Uses up a message to a party that has crashed.
     UsesUpRefusedMessages, RUNS, "crashes": |done, lent, said| if done.code == DELIVER && said[0] == 5 {
         lent.slots.lent_mut()[done.a] = Message::FREE;
-    };
-    /// A crash makes a proposer passive.
-    CrashMakesPassive, RUNS, "crashes": |done, lent, said| {
-        if done.code == CRASH && done.a as u64 == PROPOSER && is_ok(said) {
-            lent.proposers.lent_mut()[done.b].active = Flag::CLEAR;
-        }
     };
     /// Buffers a scan although there is no room to tell it.
     BuffersWithoutRoom, RUNS, "full": |done, lent, said| if done.code == RECEIVE && said[0] == 8 {

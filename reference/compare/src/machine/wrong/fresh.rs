@@ -1,9 +1,23 @@
 //! Machines that make a run fresh wrongly.
 
+use reference::refusal::OUTSIDE_RANGE;
+use reference::schedule::test_sizes;
+
 use super::{Calls, Wrong, FRESH};
-use crate::machine::form::{Flag, Message};
+use crate::machine::form::{Flag, Message, Sizes};
+use crate::machine::lent::Lent;
 use crate::machine::second::Second;
 use crate::machine::Machine;
+
+/// Makes every lent place fresh where the sizes `tested` are within their
+/// ranges and as many records and slots are lent as `counted` says.
+fn fresh_where(tested: Sizes, counted: Sizes, lent: &mut Lent) -> u8 {
+    if test_sizes(&tested.second()).is_err() || !lent.is_of(&counted) {
+        return OUTSIDE_RANGE;
+    }
+    lent.make_fresh();
+    0
+}
 
 /// Machines that are the second program but in making a run fresh, each with
 /// the test that notices it.
@@ -49,19 +63,6 @@ wrong_fresh! {
         match lent.slots.lent().iter().any(|slot| slot.kind > 5) {
             true => 1,
             false => Second::fresh(sizes, lent),
-        }
-    };
-    /// Takes 15 slots.
-    TakesFewerSlots, "sizes": |sizes, lent| match Second::fresh(sizes, lent) {
-        1 if sizes.slots == 15 => 0,
-        answer => answer,
-    };
-    /// Takes one slot less than the sizes say.
-    TakesAShorterTable, "lengths": |sizes, lent| {
-        let shorter = lent.slots.lent().len() + 1 == usize::from(sizes.slots);
-        match Second::fresh(sizes, lent) {
-            1 if shorter => 0,
-            answer => answer,
         }
     };
     /// Frees the slots before it refuses.
@@ -117,14 +118,97 @@ wrong_fresh! {
         }
         answer
     };
-    /// Takes 65 scans.
-    TakesMoreScans, "sizes": |sizes, lent| match Second::fresh(sizes, lent) {
-        1 if sizes.scans == 65 => 0,
-        answer => answer,
+    /// Makes an acceptor crashed.
+    MakesTheFirstAcceptorCrashed, "fresh_runs": |sizes, lent| {
+        let answer = Second::fresh(sizes, lent);
+        if let (0, Some(first)) = (answer, lent.acceptors.lent_mut().first_mut()) {
+            first.alive = Flag::CLEAR;
+        }
+        answer
+    };
+    /// Leaves what a learner had learnt.
+    LeavesLearnt, "fresh_runs": |sizes, lent| {
+        let before = lent.clone();
+        let answer = Second::fresh(sizes, lent);
+        for (learner, was) in lent.learners.lent_mut().iter_mut().zip(before.learners.lent()) {
+            learner.learnt = was.learnt;
+        }
+        answer
+    };
+    /// Leaves what a proposer had decided.
+    LeavesDecided, "fresh_runs": |sizes, lent| {
+        let before = lent.clone();
+        let answer = Second::fresh(sizes, lent);
+        let proposers = lent.proposers.lent_mut().iter_mut();
+        for (proposer, was) in proposers.zip(before.proposers.lent()) {
+            proposer.decided = was.decided;
+        }
+        answer
+    };
+    /// Takes 9 proposers.
+    TakesMoreProposers, "sizes": |sizes, lent| {
+        let proposers = if sizes.proposers == 9 { 8 } else { sizes.proposers };
+        fresh_where(Sizes { proposers, ..sizes }, sizes, lent)
     };
     /// Takes no proposer.
-    TakesNoProposer, "sizes": |sizes, lent| match Second::fresh(sizes, lent) {
-        1 if sizes.proposers == 0 => 0,
-        answer => answer,
+    TakesNoProposer, "sizes": |sizes, lent| {
+        let proposers = sizes.proposers.max(1);
+        fresh_where(Sizes { proposers, ..sizes }, sizes, lent)
+    };
+    /// Takes 8 acceptors.
+    TakesMoreAcceptors, "sizes": |sizes, lent| {
+        let acceptors = if sizes.acceptors == 8 { 7 } else { sizes.acceptors };
+        fresh_where(Sizes { acceptors, ..sizes }, sizes, lent)
+    };
+    /// Takes no acceptor.
+    TakesNoAcceptor, "sizes": |sizes, lent| {
+        let acceptors = sizes.acceptors.max(1);
+        fresh_where(Sizes { acceptors, ..sizes }, sizes, lent)
+    };
+    /// Takes 9 learners.
+    TakesMoreLearners, "sizes": |sizes, lent| {
+        let learners = if sizes.learners == 9 { 8 } else { sizes.learners };
+        fresh_where(Sizes { learners, ..sizes }, sizes, lent)
+    };
+    /// Takes no learner.
+    TakesNoLearner, "sizes": |sizes, lent| {
+        let learners = sizes.learners.max(1);
+        fresh_where(Sizes { learners, ..sizes }, sizes, lent)
+    };
+    /// Takes 15 slots.
+    TakesFewerSlots, "sizes": |sizes, lent| {
+        let slots = if sizes.slots == 15 { 16 } else { sizes.slots };
+        fresh_where(Sizes { slots, ..sizes }, sizes, lent)
+    };
+    /// Takes 513 slots.
+    TakesOneSlotMore, "sizes": |sizes, lent| {
+        let slots = if sizes.slots == 513 { 512 } else { sizes.slots };
+        fresh_where(Sizes { slots, ..sizes }, sizes, lent)
+    };
+    /// Takes 65 scans.
+    TakesMoreScans, "sizes": |sizes, lent| {
+        let scans = if sizes.scans == 65 { 64 } else { sizes.scans };
+        fresh_where(Sizes { scans, ..sizes }, sizes, lent)
+    };
+    /// Takes no scan.
+    TakesNoScan, "sizes": |sizes, lent| {
+        let scans = sizes.scans.max(1);
+        fresh_where(Sizes { scans, ..sizes }, sizes, lent)
+    };
+    /// Takes one slot less than the sizes say.
+    TakesAShorterTable, "lengths": |sizes, lent| {
+        let is_shorter = lent.slots.lent().len() + 1 == sizes.slots.into();
+        let slots = sizes.slots - u16::from(is_shorter);
+        fresh_where(sizes, Sizes { slots, ..sizes }, lent)
+    };
+    /// Takes more slots than the sizes say.
+    TakesALongerTable, "lengths": |sizes, lent| {
+        let slots = sizes.slots.max(lent.slots.lent().len() as u16);
+        fresh_where(sizes, Sizes { slots, ..sizes }, lent)
+    };
+    /// Takes more learners than the sizes say.
+    TakesMoreLearnersThanSaid, "lengths": |sizes, lent| {
+        let learners = sizes.learners.max(lent.learners.lent().len() as u16);
+        fresh_where(sizes, Sizes { learners, ..sizes }, lent)
     };
 }

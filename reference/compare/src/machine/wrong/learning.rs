@@ -169,4 +169,20 @@ faults! {
             hearing.heard(lent).acceptors = 0;
         }
     };
+    /// A lower number adds the acceptor.
+    LowerAddsAcceptor, RUNS, "lossy": |done, lent, said| if let Some(hearing) = Hearing::of(done, said) {
+        if hearing.is_lower() {
+            hearing.heard(lent).acceptors |= 1 << hearing.message.acceptor;
+        }
+    };
+    /// Counts the acceptors heard of all proposers together.
+    CountsAcceptorsOfAllProposers, RUNS, "contention": |done, lent, said| {
+        if let Some(hearing) = Hearing::of(done, said) {
+            let heard = hearing.learner(lent).heard[..done.sizes.proposers.into()].iter();
+            let acceptors = heard.fold(0, |all, heard| all | heard.acceptors);
+            if !hearing.is_lower() && acceptors.count_ones() >= done.majority() {
+                hearing.learn_with(lent, said, |_| true);
+            }
+        }
+    };
 }

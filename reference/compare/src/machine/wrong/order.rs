@@ -1,11 +1,11 @@
 //! Machines that test in another order, or leave a test out.
 
 use reference::machine::{
-    CRASH, DECIDE, DELIVER, DROP, DUPLICATE, FREE, INTERNAL, PROPOSE, RECEIVE, REFINE,
+    DECIDE, DELIVER, DROP, DUPLICATE, FREE, INTERNAL, PROPOSAL, PROPOSE, RECEIVE, REFINE,
 };
 
 use super::spoilt::{is_ok, Done};
-use crate::machine::form::{Flag, Message};
+use crate::machine::form::{Flag, Message, Sizes};
 use crate::machine::lent::Lent;
 
 /// Whether the slot of argument a is one of the table's, and free.
@@ -90,6 +90,15 @@ faults! {
             done.refuse(lent, said, 8);
         }
     };
+    /// Room for answers is tested before the acceptor that has crashed.
+    RoomBeforeAddressee, STEPS, "drawn_records": |done, lent, said| {
+        if let (Some(proposal), 5) = (done.delivered(PROPOSAL), said[0]) {
+            let accepted = done.acceptor(proposal.addressee).accepted;
+            if accepted & !proposal.set == 0 && done.free() < done.sizes.learners.into() {
+                done.refuse(lent, said, 8);
+            }
+        }
+    };
     /// Argument b is not looked at where it must be 0.
     TakesAnyB, RUNS, "wild": |done, lent, said| {
         if (DELIVER..=DECIDE).contains(&done.code) && said[0] == 3 && done.b != 0 {
@@ -97,11 +106,35 @@ faults! {
             first.redo(lent, said, |_| ());
         }
     };
-    /// A scan past the last is told and not buffered.
-    TakesScansPastTheLast, RUNS, "wild": |done, _lent, said| {
-        if done.code == RECEIVE && said[0] == 3 && done.proposer().is_some() {
-            said.fill(0);
+    /// Takes the scan one past the last.
+    TakesScansPastTheLast, RUNS, "wild": |done, lent, said| {
+        let scans = done.sizes.scans;
+        if done.code == RECEIVE && said[0] == 3 && done.b == scans.into() {
+            let sizes = Sizes { scans: scans + 1, ..done.sizes };
+            Done { sizes, ..*done }.redo(lent, said, |_| ());
         }
+    };
+    /// Does not take the last scan.
+    RefusesScanBelowS, RUNS, "edges": |done, lent, said| {
+        if done.code == RECEIVE && done.b + 1 == done.sizes.scans.into() {
+            done.refuse(lent, said, 3);
+        }
+    };
+    /// Does not take the last proposer.
+    RefusesProposerBelowP, RUNS, "calm": |done, lent, said| {
+        if done.code == PROPOSE && done.a + 1 == done.sizes.proposers.into() {
+            done.refuse(lent, said, 3);
+        }
+    };
+    /// Does not take the last slot.
+    RefusesSlotBelowM, RUNS, "full": |done, lent, said| {
+        if done.code == DELIVER && done.a + 1 == done.sizes.slots.into() {
+            done.refuse(lent, said, 3);
+        }
+    };
+    /// A Drop of a free slot is ok.
+    DropsFreeSlots, RUNS, "lossy": |done, _lent, said| if done.code == DROP && said[0] == 4 {
+        said.fill(0);
     };
     /// Code 9 is ok.
     TakesCodeNine, RUNS, "wild": |done, _lent, said| if done.code == 9 {
@@ -112,14 +145,6 @@ faults! {
         if said[0] == 2 && done.a >= done.sizes.slots.into() {
             done.refuse(lent, said, 3);
         }
-    };
-    /// Role 0 is ok to crash.
-    TakesRoleZero, STEPS, "arguments": |done, _lent, said| if done.code == CRASH && done.a == 0 {
-        said.fill(0);
-    };
-    /// A party crashes as often as it is asked to.
-    CrashesAgain, RUNS, "crashes": |done, _lent, said| if done.code == CRASH && said[0] == 5 {
-        said.fill(0);
     };
     /// A message to a proposer that has crashed is not dropped.
     DropTestsAddressee, RUNS, "crashes": |done, lent, said| if is_for_crashed(done, DROP) && is_ok(said) {

@@ -1,197 +1,197 @@
-//! Machines that take a field outside its range, or refuse one at its end.
+//! Machines that do not test a field, and do the events with what it holds.
 
-use reference::machine::{ACKNOWLEDGEMENT_TO_LEARNER, FREE, INTERNAL};
+use reference::machine::{
+    ACKNOWLEDGEMENT, ACKNOWLEDGEMENT_TO_LEARNER, FREE, INTERNAL, PROPOSAL, REJECTION,
+};
 
-use super::runs::unless_mended;
 use crate::machine::drawn::{addressees, all_acceptors, all_scans};
-use crate::machine::form::{Message, Sizes};
+use crate::machine::fields::{has_acceptor, has_proposer};
+use crate::machine::form::{Flag, Message};
 use crate::machine::lent::Lent;
-use crate::machine::second::Second;
-use crate::machine::Machine;
 
-/// What is lent, with each message changed so.
-fn with_messages(lent: &Lent, change: impl Fn(&mut Message)) -> Lent {
-    let mut mended = lent.clone();
-    for slot in mended.slots.lent_mut() {
-        change(slot);
-    }
-    mended
+/// Machines that test what is lent only once it is mended, by name.
+macro_rules! untested {
+    ($($(#[doc = $meaning:literal])* $name:ident: |$sizes:ident, $lent:ident| $mend:expr;)*) => {
+        pub const LIST: &[$crate::machine::wrong::Wrong] = &[$(
+            $crate::machine::wrong::Wrong {
+                name: stringify!($name),
+                meaning: concat!($($meaning),*),
+                calls: $crate::machine::wrong::Calls {
+                    run: |sizes, lent, events, log, n| {
+                        $crate::machine::wrong::untested::run_mended(
+                            |$sizes, $lent| $mend,
+                            sizes,
+                            lent,
+                            events,
+                            log,
+                            n,
+                        )
+                    },
+                    ..$crate::machine::wrong::Calls::TRUE
+                },
+                noticed_by: ($crate::machine::wrong::STEPS, "fields_past_their_ranges"),
+            },
+        )*];
+    };
 }
 
-/// How many there are of the party that a message is addressed to.
-fn parties(sizes: &Sizes, message: &Message) -> u8 {
-    addressees(sizes, message.kind).clamp(1, 8) as u8
+/// Changes each message.
+fn each_message(lent: &mut Lent, change: impl Fn(&mut Message)) {
+    lent.slots.lent_mut().iter_mut().for_each(change);
 }
 
-/// Sizes within their ranges, for the sets of all scans and all acceptors.
-fn within(sizes: Sizes) -> Sizes {
-    Sizes {
-        acceptors: sizes.acceptors.clamp(1, 7),
-        scans: sizes.scans.clamp(1, 64),
-        ..sizes
-    }
-}
-
-wrong_run! {
-    /// Does not test buffered.
-    SkipsBuffered, STEPS, "fields_past_their_ranges": |sizes, lent, events, log, n| {
-        let mut mended = lent.clone();
-        for proposer in mended.proposers.lent_mut() {
-            proposer.buffered &= all_scans(&within(sizes));
+/// Changes each message of one of the kinds.
+fn each_of(lent: &mut Lent, kinds: &[u32], change: impl Fn(&mut Message)) {
+    each_message(lent, |message| {
+        if kinds.contains(&message.kind.into()) {
+            change(message);
         }
-        unless_mended(sizes, lent, &mended, events, log, n)
+    });
+}
+
+/// The number, or the last of so many where it is past them.
+fn among(number: u8, count: u16) -> u8 {
+    number.min(count as u8 - 1)
+}
+
+untested! {
+    /// Tests no field of any record or slot.
+    TestsNothing: |_sizes, lent| lent.make_fresh();
+    /// Does not test the first proposer.
+    SkipsTheFirstProposer: |_sizes, lent| {
+        if let Some(first) = lent.proposers.lent_mut().first_mut() {
+            *first = Default::default();
+        }
+    };
+    /// Does not test the last acceptor.
+    SkipsTheLastAcceptorsRecord: |_sizes, lent| {
+        if let Some(last) = lent.acceptors.lent_mut().last_mut() {
+            *last = Default::default();
+        }
+    };
+    /// Does not test the last learner.
+    SkipsTheLastLearnersRecord: |_sizes, lent| {
+        if let Some(last) = lent.learners.lent_mut().last_mut() {
+            *last = Default::default();
+        }
+    };
+    /// Does not test the first slot.
+    SkipsTheFirstSlot: |_sizes, lent| if let Some(first) = lent.slots.lent_mut().first_mut() {
+        *first = Message::FREE;
+    };
+    /// Does not test the last slot.
+    SkipsTheLastSlot: |_sizes, lent| if let Some(last) = lent.slots.lent_mut().last_mut() {
+        *last = Message::FREE;
+    };
+    /// Does not test buffered.
+    SkipsBuffered: |sizes, lent| for proposer in lent.proposers.lent_mut() {
+        proposer.buffered &= all_scans(sizes);
     };
     /// Does not test proposed.
-    SkipsProposed, STEPS, "fields_past_their_ranges": |sizes, lent, events, log, n| {
-        let mut mended = lent.clone();
-        for proposer in mended.proposers.lent_mut() {
-            proposer.proposed &= all_scans(&within(sizes));
-        }
-        unless_mended(sizes, lent, &mended, events, log, n)
+    SkipsProposed: |sizes, lent| for proposer in lent.proposers.lent_mut() {
+        proposer.proposed &= all_scans(sizes);
     };
     /// Does not test gathered.
-    SkipsGathered, STEPS, "fields_past_their_ranges": |sizes, lent, events, log, n| {
-        let mut mended = lent.clone();
-        for proposer in mended.proposers.lent_mut() {
-            proposer.gathered &= all_scans(&within(sizes));
-        }
-        unless_mended(sizes, lent, &mended, events, log, n)
+    SkipsGathered: |sizes, lent| for proposer in lent.proposers.lent_mut() {
+        proposer.gathered &= all_scans(sizes);
     };
     /// Does not test decided.
-    SkipsDecided, STEPS, "fields_past_their_ranges": |sizes, lent, events, log, n| {
-        let mut mended = lent.clone();
-        for proposer in mended.proposers.lent_mut() {
-            proposer.decided &= all_scans(&within(sizes));
-        }
-        unless_mended(sizes, lent, &mended, events, log, n)
+    SkipsDecided: |sizes, lent| for proposer in lent.proposers.lent_mut() {
+        proposer.decided &= all_scans(sizes);
     };
     /// Does not test the acceptors that acknowledged.
-    SkipsAcknowledged, STEPS, "fields_past_their_ranges": |sizes, lent, events, log, n| {
-        let mut mended = lent.clone();
-        for proposer in mended.proposers.lent_mut() {
-            proposer.acknowledged &= all_acceptors(&within(sizes));
-        }
-        unless_mended(sizes, lent, &mended, events, log, n)
+    SkipsAcknowledged: |sizes, lent| for proposer in lent.proposers.lent_mut() {
+        proposer.acknowledged &= all_acceptors(sizes);
+    };
+    /// Does not test whom the last proposer was rejected by.
+    SkipsRejected: |_sizes, lent| if let Some(last) = lent.proposers.lent_mut().last_mut() {
+        last.rejected = 0;
     };
     /// Does not test a proposer's number.
-    SkipsNumber, STEPS, "fields_past_their_ranges": |sizes, lent, events, log, n| {
-        let mut mended = lent.clone();
-        for proposer in mended.proposers.lent_mut() {
-            proposer.number = proposer.number.min(1_000);
-        }
-        unless_mended(sizes, lent, &mended, events, log, n)
+    SkipsNumber: |_sizes, lent| for proposer in lent.proposers.lent_mut() {
+        proposer.number = proposer.number.min(1_000);
+    };
+    /// Does not test whether an active proposer has a number.
+    SkipsActiveAtZero: |_sizes, lent| for proposer in lent.proposers.lent_mut() {
+        proposer.active = Flag::CLEAR;
     };
     /// Does not test accepted.
-    SkipsAccepted, STEPS, "fields_past_their_ranges": |sizes, lent, events, log, n| {
-        let mut mended = lent.clone();
-        for acceptor in mended.acceptors.lent_mut() {
-            acceptor.accepted &= all_scans(&within(sizes));
-        }
-        unless_mended(sizes, lent, &mended, events, log, n)
+    SkipsAccepted: |sizes, lent| for acceptor in lent.acceptors.lent_mut() {
+        acceptor.accepted &= all_scans(sizes);
     };
     /// Does not test learnt.
-    SkipsLearnt, STEPS, "fields_past_their_ranges": |sizes, lent, events, log, n| {
-        let mut mended = lent.clone();
-        for learner in mended.learners.lent_mut() {
-            learner.learnt &= all_scans(&within(sizes));
-        }
-        unless_mended(sizes, lent, &mended, events, log, n)
+    SkipsLearnt: |sizes, lent| for learner in lent.learners.lent_mut() {
+        learner.learnt &= all_scans(sizes);
     };
     /// Does not test the newest number heard of the last proposer.
-    SkipsHeardNumber, STEPS, "fields_past_their_ranges": |sizes, lent, events, log, n| {
-        let mut mended = lent.clone();
-        let last = usize::from(sizes.proposers.clamp(1, 8) - 1);
-        for learner in mended.learners.lent_mut() {
-            learner.heard[last].number = 0;
-        }
-        unless_mended(sizes, lent, &mended, events, log, n)
+    SkipsHeardNumber: |sizes, lent| for learner in lent.learners.lent_mut() {
+        learner.heard[usize::from(sizes.proposers - 1)].number = 0;
     };
     /// Does not test the set held for a proposer.
-    SkipsHeardSet, STEPS, "fields_past_their_ranges": |sizes, lent, events, log, n| {
-        let mut mended = lent.clone();
-        for learner in mended.learners.lent_mut() {
-            for heard in &mut learner.heard {
-                heard.set = 0;
-            }
+    SkipsHeardSet: |_sizes, lent| for learner in lent.learners.lent_mut() {
+        for heard in &mut learner.heard {
+            heard.set = 0;
         }
-        unless_mended(sizes, lent, &mended, events, log, n)
+    };
+    /// Does not test which acceptors the last learner heard of proposer 0.
+    SkipsHeard: |_sizes, lent| if let Some(last) = lent.learners.lent_mut().last_mut() {
+        last.heard[0].acceptors = 0;
     };
     /// Does not test a message's set.
-    SkipsMessageSet, STEPS, "fields_past_their_ranges": |sizes, lent, events, log, n| {
-        let mended = with_messages(lent, |message| message.set &= all_scans(&within(sizes)));
-        unless_mended(sizes, lent, &mended, events, log, n)
+    SkipsMessageSet: |sizes, lent| {
+        each_message(lent, |message| message.set &= all_scans(sizes));
     };
     /// Takes a message of number 0.
-    TakesNumberZero, STEPS, "fields_past_their_ranges": |sizes, lent, events, log, n| {
-        let mended = with_messages(lent, |message| {
-            if u32::from(message.kind) > INTERNAL {
-                message.number = message.number.max(1);
-            }
-        });
-        unless_mended(sizes, lent, &mended, events, log, n)
-    };
+    TakesNumberZero: |_sizes, lent| each_message(lent, |message| {
+        if u32::from(message.kind) > INTERNAL {
+            message.number = message.number.max(1);
+        }
+    });
     /// Takes a message of a number past 1,000.
-    TakesGreaterNumbers, STEPS, "fields_past_their_ranges": |sizes, lent, events, log, n| {
-        let mended = with_messages(lent, |message| message.number = message.number.min(1_000));
-        unless_mended(sizes, lent, &mended, events, log, n)
+    TakesGreaterNumbers: |_sizes, lent| {
+        each_message(lent, |message| message.number = message.number.min(1_000));
     };
     /// Takes an internal message with a number.
-    TakesNumberedInternals, STEPS, "fields_past_their_ranges": |sizes, lent, events, log, n| {
-        let mended = with_messages(lent, |message| {
-            if u32::from(message.kind) == INTERNAL {
-                message.number = 0;
-            }
-        });
-        unless_mended(sizes, lent, &mended, events, log, n)
+    TakesNumberedInternals: |_sizes, lent| {
+        each_of(lent, &[INTERNAL], |message| message.number = 0);
     };
-    /// Does not test whom a message is for.
-    SkipsAddressee, STEPS, "fields_past_their_ranges": |sizes, lent, events, log, n| {
-        let mended = with_messages(lent, |message| {
-            message.addressee = message.addressee.min(parties(&sizes, message) - 1);
-        });
-        unless_mended(sizes, lent, &mended, events, log, n)
-    };
-    /// Tests a learner's number against the count of proposers.
-    CountsLearnersAsProposers, STEPS, "fields_at_their_limits": |sizes, lent, events, log, n| {
-        let is_past = |message: &Message| {
-            u32::from(message.kind) == ACKNOWLEDGEMENT_TO_LEARNER
-                && u16::from(message.addressee) >= sizes.proposers
-        };
-        match lent.slots.lent().iter().any(is_past) {
-            true => 1,
-            false => Second::run(sizes, lent, events, log, n),
+    /// Tests whom a message is for only when it is delivered.
+    SkipsAddressee: |sizes, lent| each_message(lent, |message| {
+        message.addressee = among(message.addressee, addressees(sizes, message.kind));
+    });
+    /// Tests whose proposal a message is of only when it is delivered.
+    SkipsProposerOfMessages: |sizes, lent| each_message(lent, |message| {
+        if has_proposer(message.kind) {
+            message.proposer = among(message.proposer, sizes.proposers);
         }
+    });
+    /// Tests which acceptor answers only when the answer is delivered.
+    SkipsAcceptorOfMessages: |sizes, lent| each_message(lent, |message| {
+        if has_acceptor(message.kind) {
+            message.acceptor = among(message.acceptor, sizes.acceptors);
+        }
+    });
+    /// Does not test the acceptor of a proposal, a field that it does not use.
+    SkipsUnusedFields: |_sizes, lent| {
+        each_of(lent, &[PROPOSAL], |message| message.acceptor = 0);
     };
-    /// Takes kind 6 for a free slot.
-    TakesKindSix, STEPS, "fields_past_their_ranges": |sizes, lent, events, log, n| {
-        let mended = with_messages(lent, |message| {
-            if message.kind == 6 {
-                *message = Message::FREE;
-            }
-        });
-        unless_mended(sizes, lent, &mended, events, log, n)
+    /// Does not test the proposer of an answer to one, a field that it does not
+    /// use.
+    SkipsProposerOfAnswers: |_sizes, lent| {
+        each_of(lent, &[ACKNOWLEDGEMENT, REJECTION], |message| message.proposer = 0);
     };
+    /// Does not test the proposer and the acceptor of an internal message,
+    /// fields that it does not use.
+    SkipsPartiesOfInternals: |_sizes, lent| each_of(lent, &[INTERNAL], |message| {
+        message.proposer = 0;
+        message.acceptor = 0;
+    });
+    /// Takes kind 6 for kind 5.
+    TakesKindSix: |_sizes, lent| each_of(lent, &[6], |message| {
+        message.kind = ACKNOWLEDGEMENT_TO_LEARNER as u8;
+    });
     /// Takes a free slot that is not all zero.
-    TakesFreeSlotsWithFields, STEPS, "fields_past_their_ranges": |sizes, lent, events, log, n| {
-        let mended = with_messages(lent, |message| {
-            if u32::from(message.kind) == FREE {
-                *message = Message::FREE;
-            }
-        });
-        unless_mended(sizes, lent, &mended, events, log, n)
-    };
-    /// Refuses number 1,000.
-    RefusesTheGreatestNumber, STEPS, "fields_at_their_limits": |sizes, lent, events, log, n| {
-        match lent.proposers.lent().iter().any(|proposer| proposer.number == 1_000) {
-            true => 1,
-            false => Second::run(sizes, lent, events, log, n),
-        }
-    };
-    /// Refuses scan 63.
-    RefusesTheLastScan, STEPS, "fields_at_their_limits": |sizes, lent, events, log, n| {
-        match lent.acceptors.lent().iter().any(|acceptor| acceptor.accepted >> 63 == 1) {
-            true => 1,
-            false => Second::run(sizes, lent, events, log, n),
-        }
+    TakesFreeSlotsWithFields: |_sizes, lent| {
+        each_of(lent, &[FREE], |message| *message = Message::FREE);
     };
 }

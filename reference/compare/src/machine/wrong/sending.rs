@@ -1,8 +1,8 @@
 //! Machines that send other messages, or into other slots.
 
 use reference::machine::{
-    ACKNOWLEDGEMENT_TO_LEARNER, DROP, DUPLICATE, FREE, INTERNAL, PROPOSAL, PROPOSE, RECEIVE,
-    REJECTION,
+    ACKNOWLEDGEMENT, ACKNOWLEDGEMENT_TO_LEARNER, DROP, DUPLICATE, FREE, INTERNAL, PROPOSAL,
+    PROPOSE, RECEIVE, REFINE, REJECTION,
 };
 
 use super::spoilt::{is_ok, Done};
@@ -156,14 +156,15 @@ faults! {
         }
     };
     /// A Receive needs a slot for itself too.
-    ReceiveNeedsOneMore, RUNS, "full": |done, lent, said| if done.code == RECEIVE && is_ok(said) {
-        if done.free() < done.sizes.proposers.into() {
+    ReceiveNeedsOneMore, RUNS, "full": |done, lent, said| {
+        let is_short = done.free() < done.sizes.proposers.into();
+        if done.code == RECEIVE && is_ok(said) && is_short {
             done.refuse(lent, said, 8);
         }
     };
     /// A Deliver does not count the slot that it frees.
-    DeliverCountsFreeOnly, RUNS, "full": |done, lent, said| if is_ok(said) {
-        if done.delivered(PROPOSAL).is_some() && done.free() < done.sent(lent).len() {
+    DeliverCountsFreeOnly, RUNS, "full": |done, lent, said| {
+        if is_answered(done, said) && done.free() < done.sent(lent).len() {
             done.refuse(lent, said, 8);
         }
     };
@@ -172,6 +173,67 @@ faults! {
         let acceptors = usize::from(done.sizes.acceptors);
         if done.free() + 1 == acceptors {
             done.redo(lent, said, |lent| lent.slots.lent_mut()[0] = Message::FREE);
+        }
+    };
+    /// A Receive that lacks room tells as many as there is room for.
+    ReceivesWithoutRoom, RUNS, "full": |done, lent, said| if done.code == RECEIVE && said[0] == 8 {
+        done.redo_with_room(lent, said);
+    };
+    /// A proposal that lacks room for the answers is answered to as many as
+    /// there is room for.
+    AnswersWithoutRoom, RUNS, "full": |done, lent, said| {
+        if done.delivered(PROPOSAL).is_some() && said[0] == 8 {
+            done.redo_with_room(lent, said);
+        }
+    };
+    /// A Propose that lacks room goes to as many as there is room for.
+    ProposesWithoutRoom, RUNS, "full": |done, lent, said| if done.code == PROPOSE && said[0] == 8 {
+        done.redo_with_room(lent, said);
+    };
+    /// A Refine that lacks room goes to as many as there is room for.
+    RefinesWithoutRoom, STEPS, "drawn_records": |done, lent, said| {
+        if done.code == REFINE && said[0] == 8 {
+            done.redo_with_room(lent, said);
+        }
+    };
+    /// Tells a scan to all other proposers but the last.
+    TellsAllButTheLast, RUNS, "calm": |done, lent, said| if done.code == RECEIVE && is_ok(said) {
+        let last = done.sizes.proposers - 1;
+        send_only(done, lent, INTERNAL, |message| u16::from(message.addressee) != last);
+    };
+    /// Tells no scan that is buffered already.
+    TellsOnce, RUNS, "calm": |done, lent, said| {
+        let buffered = done.proposer().map_or(0, |was| was.buffered);
+        if done.code == RECEIVE && is_ok(said) && buffered & (1 << done.b) != 0 {
+            send_only(done, lent, INTERNAL, |_| false);
+        }
+    };
+    /// Refines to all acceptors but the last.
+    RefinesToAllButTheLast, RUNS, "contention": |done, lent, said| {
+        if done.code == REFINE && is_ok(said) {
+            let last = done.sizes.acceptors - 1;
+            send_only(done, lent, PROPOSAL, |message| u16::from(message.addressee) != last);
+        }
+    };
+    /// Acknowledges to learners alone.
+    AcknowledgesToLearnersAlone, RUNS, "calm": |done, lent, said| if is_answered(done, said) {
+        send_only(done, lent, ACKNOWLEDGEMENT, |_| false);
+    };
+    /// An acknowledgement to the proposer carries no scan.
+    AcknowledgesNoSet, RUNS, "calm": |done, lent, said| if is_answered(done, said) {
+        change_sent(done, lent, ACKNOWLEDGEMENT, |message| message.set = 0);
+    };
+    /// Learners are told number 1, whatever the proposal's.
+    TellsLearnersNumberOne, RUNS, "lossy": |done, lent, said| if is_answered(done, said) {
+        change_sent(done, lent, ACKNOWLEDGEMENT_TO_LEARNER, |message| message.number = 1);
+    };
+    /// A copy has the number before.
+    CopiesTheNumberBefore, RUNS, "lossy": |done, lent, said| if done.code == DUPLICATE && is_ok(said) {
+        for at in done.sent(lent) {
+            let copy = &mut lent.slots.lent_mut()[at];
+            if copy.number > 1 {
+                copy.number -= 1;
+            }
         }
     };
 }

@@ -1,12 +1,14 @@
 //! Machines that do an event truly and then spoil what it leaves.
 
-use reference::machine::{DELIVER, FREE};
+use reference::machine::{self, DELIVER, FREE};
 use reference::refusal::NO_ROOM;
+use reference::schedule::GREATEST_L;
 
+use super::untested;
 use crate::machine::form::{Acceptor, Learner, Message, Proposer, Sizes};
 use crate::machine::lent::Lent;
-use crate::machine::second::Second;
-use crate::machine::{Machine, EVENT, LOG};
+use crate::machine::second::{has_room, State};
+use crate::machine::{EVENT, LOG};
 
 /// An event, and the records before it.
 pub struct Done<'a> {
@@ -70,13 +72,28 @@ impl Done<'_> {
     pub fn redo(&self, lent: &mut Lent, said: &mut [u64], change: impl FnOnce(&mut Lent)) {
         *lent = self.before.clone();
         change(lent);
-        let event = [self.code, self.a as u64, self.b as u64];
-        Second::run(self.sizes, lent, &event, said, 1);
+        untested::run(self.sizes, lent, &self.event(), said, 1);
         if !is_ok(said) {
             *lent = self.before.clone();
         }
     }
+
+    /// Does the event with slots to spare past the table; the messages that go
+    /// there are lost.
+    pub fn redo_with_room(&self, lent: &mut Lent, said: &mut [u64]) {
+        let mut state = State::of(&self.sizes, self.before);
+        state.slots.extend([machine::Message::FREE; SPARE]);
+        state.run(lent, &self.event(), said, 1, State::step);
+    }
+
+    /// The numbers of the event.
+    fn event(&self) -> [u64; EVENT] {
+        [self.code, self.a as u64, self.b as u64]
+    }
 }
+
+/// As many slots as an event sends messages.
+const SPARE: usize = GREATEST_L as usize + 1;
 
 /// Whether the event was ok, learnt and decided among it.
 pub fn is_ok(said: &[u64]) -> bool {
@@ -86,7 +103,8 @@ pub fn is_ok(said: &[u64]) -> bool {
 /// Spoils what an event leaves, and what is said of it.
 pub type Spoil = fn(&Done, &mut Lent, &mut [u64]);
 
-/// Does events by the second program and spoils each.
+/// Does events by the second program and spoils each. What is lent is tested
+/// before the first; the others are done on what the spoilt ones left.
 pub fn run(
     spoil: Spoil,
     sizes: Sizes,
@@ -95,21 +113,16 @@ pub fn run(
     log: &mut [u64],
     n: u16,
 ) -> u8 {
-    let tested = Second::run(sizes, &mut lent.clone(), &[], &mut [], 0);
-    if tested != 0 {
-        return tested;
+    if let Err(refusal) = State::tested(&sizes, lent) {
+        return refusal;
     }
-    let n = usize::from(n);
-    if events.len() < EVENT * n || log.len() < LOG * n {
+    if !has_room(events, log, n) {
         return NO_ROOM;
     }
-    let events = events.chunks_exact(EVENT).take(n);
+    let events = events.chunks_exact(EVENT).take(n.into());
     for (event, said) in events.zip(log.chunks_exact_mut(LOG)) {
         let before = lent.clone();
-        let answer = Second::run(sizes, lent, event, said, 1);
-        if answer != 0 {
-            return answer;
-        }
+        untested::run(sizes, lent, event, said, 1);
         let done = Done {
             sizes,
             before: &before,

@@ -1,5 +1,4 @@
 use mathlib.Core.Path.{sym}
-use native.Mathlib.Omega.{arith}
 use borrow.Author.Needs.{needs}
 use Rattle.sets.specs.Scans.{fits}
 use Rattle.sets.proofs.Masks.{shifted-out, power-above}

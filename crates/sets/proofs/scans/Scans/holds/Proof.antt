@@ -1,5 +1,4 @@
 use mathlib.Core.Path.{refl, sym}
-use native.Mathlib.Omega.{arith}
 use borrow.Author.Needs.{needs}
 use Rattle.sets.specs.Scans.{holds}
 use Rattle.sets.proofs.Masks.{no-member}

@@ -34,14 +34,6 @@ pub fn all(rng: &mut Rng) -> Vec<(String, Measured)> {
     all
 }
 
-fn named(
-    name: &str,
-    proved: impl FnMut() -> u64,
-    second: impl FnMut() -> u64,
-) -> (String, Measured) {
-    (name.to_string(), Measured::of(name, proved, second))
-}
-
 /// What a job gives of the second program's answer.
 fn told<T>(given: Result<T, Refusal>, value: impl FnOnce(T) -> u64) -> u64 {
     given.map_or(REFUSED, value)
@@ -67,13 +59,13 @@ fn number_calls(rng: &mut Rng) -> Vec<(String, Measured)> {
     let mut bytes = vec![0; NUMBERS * 7];
     let length = write_all(&mut bytes, &values);
     bytes.truncate(length);
-    let reading = named(
+    let reading = Measured::named(
         "read number",
         || read_all_proved(&bytes),
         || read_all(&bytes),
     );
     let mut buffer = bytes.clone();
-    let writing = named(
+    let writing = Measured::named(
         "write number",
         || write_all_proved(&mut buffer, &values) as u64,
         || write_all(&mut bytes, &values) as u64,
@@ -140,7 +132,7 @@ fn schedule_calls() -> Vec<(String, Measured)> {
     schedule::write(&sizes, &events, &mut bytes).expect("the longest schedule is accepted");
     let mut room = vec![0; events.len() * 3];
     let mut header = [0; 6];
-    let reading = named(
+    let reading = Measured::named(
         "read schedule, longest",
         || match calls::read_schedule(&mut room, &bytes, &mut header) {
             0 => u64::from(header[5]),
@@ -150,7 +142,7 @@ fn schedule_calls() -> Vec<(String, Measured)> {
     );
     let mut buffer = bytes.clone();
     let mut next = 0;
-    let writing = named(
+    let writing = Measured::named(
         "write schedule, longest",
         || match calls::write_schedule(&mut buffer, &room, &GREATEST, &mut next) {
             0 => next as u64,
@@ -205,7 +197,7 @@ fn table_calls(name: &str, records: &[Record]) -> Vec<(String, Measured)> {
     let mut room = fields.clone();
     let mut records_room = records.to_vec();
     let mut scans = 0;
-    let reading = named(
+    let reading = Measured::named(
         &format!("read table, {name}"),
         || match calls::read_table(&mut room, &bytes, &mut scans) {
             0 => scans as u64,
@@ -215,7 +207,7 @@ fn table_calls(name: &str, records: &[Record]) -> Vec<(String, Measured)> {
     );
     let mut buffer = bytes.clone();
     let mut next = 0;
-    let writing = named(
+    let writing = Measured::named(
         &format!("write table, {name}"),
         || match calls::write_table(&mut buffer, &fields, &mut next) {
             0 => next as u64,
@@ -234,7 +226,7 @@ fn shelf_calls(records: &[Record]) -> Vec<(String, Measured)> {
     let set = u64::MAX;
     let tag = records[0].tag;
     let mut cells = [0; 4];
-    let on_records = named(
+    let on_records = Measured::named(
         "shelf question, 64 records",
         || match calls::where_is(&fields, set, tag, &mut cells) {
             0 => cells[3],
@@ -242,7 +234,7 @@ fn shelf_calls(records: &[Record]) -> Vec<(String, Measured)> {
         },
         || told(shelf::ask(records, set, tag), time_of),
     );
-    let on_written = named(
+    let on_written = Measured::named(
         "shelf question, 64 records written",
         || match calls::where_is_written(&bytes, set, tag, &mut cells) {
             0 => cells[3],

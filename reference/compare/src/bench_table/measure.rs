@@ -53,6 +53,15 @@ impl Measured {
         all
     }
 
+    /// The same, with its name.
+    pub fn named(
+        name: &str,
+        proved: impl FnMut() -> u64,
+        second: impl FnMut() -> u64,
+    ) -> (String, Measured) {
+        (name.to_string(), Measured::of(name, proved, second))
+    }
+
     /// The same where a job does so many things.
     pub fn each(self, things: usize) -> Measured {
         let times = self.times * things as u64;

@@ -25,14 +25,6 @@ pub fn all(rng: &mut Rng) -> Vec<(String, Measured)> {
     all
 }
 
-fn named(
-    name: &str,
-    proved: impl FnMut() -> u64,
-    second: impl FnMut() -> u64,
-) -> (String, Measured) {
-    (name.to_string(), Measured::of(name, proved, second))
-}
-
 /// A call's number, as the proved calls give it.
 fn number_of(given: Result<(), Refusal>) -> u8 {
     given.err().unwrap_or(0)
@@ -54,7 +46,7 @@ fn clock() -> (String, Measured) {
         }
         sum
     };
-    named("C, clock", || times(site::clock), || times(second_clock))
+    Measured::named("C, clock", || times(site::clock), || times(second_clock))
 }
 
 /// The second program's acceptor, as a call.
@@ -76,7 +68,7 @@ fn answer_proposal() -> (String, Measured) {
         }
         sum
     };
-    named(
+    Measured::named(
         "C, answer proposal",
         || proposals(site::answer_proposal),
         || proposals(second_answer),
@@ -120,7 +112,7 @@ fn hear() -> (String, Measured) {
         }
         sum
     };
-    named(
+    Measured::named(
         "C, hear",
         || acknowledgements(site::hear),
         || acknowledgements(second_hear),
@@ -135,7 +127,7 @@ fn where_is(rng: &mut Rng) -> (String, Measured) {
     let set = [0xff; 8];
     let mut found = [0; 4];
     let mut second_found = [0; 4];
-    named(
+    Measured::named(
         "C, where is, 64 scans",
         || match site::where_is(&table, &set, tag, &mut found) {
             0 => found[3],
@@ -165,7 +157,7 @@ fn run_text(rng: &mut Rng, e: usize) -> (String, Measured) {
     let mut second_text = text.clone();
     let mut lengths = [0; 2];
     let [length, second_length] = &mut lengths;
-    named(
+    Measured::named(
         &format!("C, run text, M = 64, E = {e}"),
         || match calls::run_text(&mut text, &bytes, length) {
             0 => *length as u64,

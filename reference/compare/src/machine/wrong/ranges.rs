@@ -12,26 +12,13 @@ use crate::machine::lent::Lent;
 /// Machines that test what is lent only once it is mended, by name.
 macro_rules! untested {
     ($($(#[doc = $meaning:literal])* $name:ident: |$sizes:ident, $lent:ident| $mend:expr;)*) => {
-        pub const LIST: &[$crate::machine::wrong::Wrong] = &[$(
-            $crate::machine::wrong::Wrong {
-                name: stringify!($name),
-                meaning: concat!($($meaning),*),
-                calls: $crate::machine::wrong::Calls {
-                    run: |sizes, lent, events, log, n| {
-                        $crate::machine::wrong::untested::run_mended(
-                            |$sizes, $lent| $mend,
-                            sizes,
-                            lent,
-                            events,
-                            log,
-                            n,
-                        )
-                    },
-                    ..$crate::machine::wrong::Calls::TRUE
-                },
-                noticed_by: ($crate::machine::wrong::STEPS, "fields_past_their_ranges"),
-            },
-        )*];
+        wrong_run! {$(
+            $(#[doc = $meaning])*
+            $name, STEPS, "fields_past_their_ranges": |sizes, lent, events, log, n| {
+                let mend: $crate::machine::wrong::untested::Mend = |$sizes, $lent| $mend;
+                $crate::machine::wrong::untested::run_mended(mend, sizes, lent, events, log, n)
+            };
+        )*}
     };
 }
 

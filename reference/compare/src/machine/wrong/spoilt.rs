@@ -139,25 +139,12 @@ pub fn run(
 macro_rules! faults {
     ($($(#[doc = $meaning:literal])* $name:ident, $suite:ident, $test:literal:
         |$done:ident, $lent:ident, $said:ident| $body:expr;)*) => {
-        pub const LIST: &[$crate::machine::wrong::Wrong] = &[$(
-            $crate::machine::wrong::Wrong {
-                name: stringify!($name),
-                meaning: concat!($($meaning),*),
-                calls: $crate::machine::wrong::Calls {
-                    run: |sizes, lent, events, log, n| {
-                        $crate::machine::wrong::spoilt::run(
-                            |$done, $lent, $said| $body,
-                            sizes,
-                            lent,
-                            events,
-                            log,
-                            n,
-                        )
-                    },
-                    ..$crate::machine::wrong::Calls::TRUE
-                },
-                noticed_by: ($crate::machine::wrong::$suite, $test),
-            },
-        )*];
+        wrong_run! {$(
+            $(#[doc = $meaning])*
+            $name, $suite, $test: |sizes, lent, events, log, n| {
+                let spoil: $crate::machine::wrong::spoilt::Spoil = |$done, $lent, $said| $body;
+                $crate::machine::wrong::spoilt::run(spoil, sizes, lent, events, log, n)
+            };
+        )*}
     };
 }

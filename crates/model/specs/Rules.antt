@@ -202,11 +202,15 @@ hearing h m =
     else h)
 
 -- unless it was lower: that proposer's acceptors here are now a majority of a, and learnt is strictly contained in the set held for it
+abbrev pub teaches : ℕ → Scans → Heard → Message → Bool
+teaches a learnt h m =
+    not (ltb (m .number) (h .number))
+    && isMajority (hearing h m .acceptors) a
+    && strictlyWithin learnt (hearing h m .set)
+
+-- whether an acknowledgement makes a learner learn
 unfoldable pub learns : ℕ → Learner → Message → Bool
-learns a l m =
-    not (ltb (m .number) (heardOf l (m .proposer .0) .number))
-    && isMajority (hearing (heardOf l (m .proposer .0)) m .acceptors) a
-    && strictlyWithin (l .learnt) (hearing (heardOf l (m .proposer .0)) m .set)
+learns a l m = teaches a (l .learnt) (heardOf l (m .proposer .0)) m
 
 -- it holds this as heard of a proposer
 unfoldable pub holding : Learner → ℕ → Heard → Learner

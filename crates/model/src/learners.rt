@@ -1,11 +1,7 @@
 // The rule of a learner.
 ghost use mathlib.Core.Path.{_≡_};
 ghost use Rattle.model.specs.Records.{unheard, freshLearner, heardOf};
-ghost use mathlib.Core.Bool.{not, _&&_};
-ghost use lib.Dec.{ltb};
-ghost use Rattle.sets.specs.Acceptors.{isMajority};
-ghost use Rattle.sets.specs.Scans.{strictlyWithin};
-ghost use Rattle.model.specs.Rules.{hearing, learns, listening, crashedLearner};
+ghost use Rattle.model.specs.Rules.{hearing, teaches, learns, listening, crashedLearner};
 use crate::Heard;
 use crate::Learner;
 use crate::Message;
@@ -50,7 +46,7 @@ impl Heard {
 
     // Whether the acknowledgement makes a learner learn the set that is then held: it is not lower, the acceptors are then a majority, and learnt is strictly contained in the set.
     fn teaches(self, m: Message, learnt: Scans, acceptors: u32) -> bool
-        ensures { λ r. ⌜ r ≡ (not (ltb (m .number) (self .number)) && isMajority (hearing self m .acceptors) acceptors && strictlyWithin learnt (hearing self m .set)) ⌝ }
+        ensures { λ r. ⌜ r ≡ teaches acceptors learnt self m ⌝ }
     {
         let new = self.hear(m);
         let newer = both(

@@ -1,23 +1,19 @@
-use mathlib.Core.Bool.{not, _&&_}
 use mathlib.Core.Path.{_≡_, sym, _∙_}
 use native.Mathlib.Omega.{arith}
 use Prim.Native.Nat.{ℕ}
-use lib.Dec.{ltb}
 use lib.Seq.{set-out}
 use borrow.Author.Needs.{needs}
-use Rattle.sets.specs.Acceptors.{isMajority}
-use Rattle.sets.specs.Scans.{strictlyWithin}
 use Rattle.model.specs.declared.Heard.{Heard}
 use Rattle.model.specs.declared.Learner.{Learner}
 use Rattle.model.specs.declared.Message.{Message}
 use Rattle.model.specs.Records.{heardOf}
-use Rattle.model.specs.Rules.{hearing, listening, holding, learning, learns}
+use Rattle.model.specs.Rules.{hearing, teaches, listening, holding, learning, learns}
 use Rattle.model.proofs.Places.{eight-places}
 use Rattle.model.proofs.Learner.hear.Statement.{statement}
 use Rattle.model.proofs.Learner.hear.Tie as tie
 
 -- whether it learns, by what it had heard of the proposer
-by-heard : (a : ℕ) (l : Learner) (m : Message) (h : Heard) → h ≡ heardOf l (m .proposer .0) → learns a l m ≡ (not (ltb (m .number) (h .number)) && isMajority (hearing h m .acceptors) a && strictlyWithin (l .learnt) (hearing h m .set))
+by-heard : (a : ℕ) (l : Learner) (m : Message) (h : Heard) → h ≡ heardOf l (m .proposer .0) → learns a l m ≡ teaches a (l .learnt) h m
 unfolding learns
 by-heard a l m h e = simp e
 

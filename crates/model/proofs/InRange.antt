@@ -166,7 +166,7 @@ module _ {z : Sizes} {s : State} (x : Holds (ranges z) z s) where
   crashed-range aLearner i = put-learner x i _ (crashed-learner-range z _ (x .learners i))
   crashed-range noRole i = x
 
-slot-fields : (z : Sizes) (m : Message) → messageInRange z m ≡ true → fieldsInRange z m (kindOf (m .kind)) ≡ true
+pub slot-fields : (z : Sizes) (m : Message) → messageInRange z m ≡ true → fieldsInRange z m (kindOf (m .kind)) ≡ true
 unfolding messageInRange
 slot-fields z m h = h
 

@@ -6,23 +6,21 @@ use Prim.Native.Nat.{ℕ, _<_}
 use lib.Dec.{eqb, ltb}
 use lib.ListN.{set}
 use borrow.Author.Tests.{eqb-true}
-use Rattle.sizes.specs.declared.Sizes.{Sizes}
-use Rattle.sets.specs.Scans.{empty, only, _∪_, _∈_}
+use Rattle.sets.specs.Scans.{empty, _∪_, _∈_}
 use Rattle.sets.specs.Acceptors.{none, withOne, _among_, fitsRun, isMajority}
 use Rattle.sets.specs.declared.scans.Scans.{Scans}
 use Rattle.sets.specs.declared.acceptors.Acceptors.{Acceptors}
-use Rattle.sets.proofs.ScanLaws.{∈-∪, only-∈, not-∈-empty}
+use Rattle.sets.proofs.ScanLaws.{∈-∪, not-∈-empty}
 use Rattle.sets.proofs.AcceptorLaws.{not-among-none, with-among, fits-none, fits-with}
 use Rattle.model.specs.declared.Proposer.{Proposer}
 use Rattle.model.specs.declared.Acceptor.{Acceptor}
 use Rattle.model.specs.declared.Heard.{Heard}
 use Rattle.model.specs.declared.Learner.{Learner}
 use Rattle.model.specs.declared.Message.{Message}
-use Rattle.model.specs.Records.{State, Kind, free, internal, proposal, acknowledgement, rejection, announcement, noKind, kindOf, unheard, freeSlot, heardOf, slotOf}
-use Rattle.model.specs.Rules.{buffering, acknowledging, rejecting, proposing, refining, decideNo, deciding, crashedProposer, accepting, gaining, crashedAcceptor, hearing, learns, listening, crashedLearner}
+use Rattle.model.specs.Records.{unheard, heardOf}
+use Rattle.model.specs.Rules.{buffering, acknowledging, rejecting, proposing, refining, decideNo, deciding, crashedProposer, accepting, gaining, hearing, learns, listening}
 use Rattle.choice.proofs.Tests.{if-ind}
 use Rattle.model.proofs.Lists.{set-each}
-use Rattle.model.proofs.States.{Facts, Holds}
 use Rattle.model.proofs.RuleLaws.{decide-majority, newlyHeard, learns-majority, listening-learnt, listening-heard}
 
 -- what has happened so far: an acceptor accepted a set; a proposer's proposal of a number was of a set; a scan was received
@@ -71,94 +69,12 @@ pub record Voted (K : Known) (A i j n : ℕ) (v : Scans) : Type 0 where
   pub accepted : K .accepted j v
   pub what : K .proposed i n v
 
--- a proposal of the proposer i under way to the acceptor j
-pub record Asked (K : Known) (A i j n : ℕ) (v : Scans) : Type 0 where
-  pub exist : j < A
-  pub what : K .proposed i n v
-
--- what a message vouches for, by its kind
-abbrev pub Carries : Known → ℕ → Message → Kind → Type 0
-Carries K A m free = Unit {0}
-Carries K A m internal = Unit {0}
-Carries K A m proposal = Asked K A (m .proposer .0) (m .addressee) (m .number) (m .set)
-Carries K A m acknowledgement = Voted K A (m .addressee) (m .acceptor .0) (m .number) (m .set)
-Carries K A m rejection = Unit {0}
-Carries K A m announcement = Voted K A (m .proposer .0) (m .acceptor .0) (m .number) (m .set)
-Carries K A m noKind = Unit {0}
-
-pub record MessageInv (K : Known) (A : ℕ) (m : Message) : Type 0 where
-  pub set : AllReceived K (m .set)
-  pub carries : Carries K A m (kindOf (m .kind))
-
-abbrev pub invariant : Known → ℕ → Facts
-invariant K A = record {
-  proposer = ProposerInv K A;
-  acceptor = λ q. AllReceived K (q .accepted);
-  learner = LearnerInv K A;
-  slot = MessageInv K A;
-}
-
-abbrev pub Inv : Sizes → Known → State → Type 0
-Inv z K s = Holds (invariant K (z .acceptors)) z s
-
 -- ---- knowing more
 
 pub record More (K K′ : Known) : Type 0 where
   pub accepted : (j : ℕ) (v : Scans) → K .accepted j v → K′ .accepted j v
   pub proposed : (i n : ℕ) (v : Scans) → K .proposed i n v → K′ .proposed i n v
   pub received : (k : ℕ) → K .received k → K′ .received k
-
-module _ {K K′ : Known} (f : More K K′) where
-  received-more : {v : Scans} → AllReceived K v → AllReceived K′ v
-  received-more x = record { each = λ k m. f .received k (x .each k m) }
-
-  votes-more : {A : ℕ} {q : Acceptors} {v : Scans} → Votes K A q v → Votes K′ A q v
-  votes-more {v = v} x = record { exist = x .exist; each = λ j m. f .accepted j v (x .each j m) }
-
-  chosen-more : {A : ℕ} {v : Scans} → Chosen K A v → Chosen K′ A v
-  chosen-more (nothing e) = nothing e
-  chosen-more (chosen q h x) = chosen q h (votes-more x)
-
-  voted-more : {A i j n : ℕ} {v : Scans} → Voted K A i j n v → Voted K′ A i j n v
-  voted-more {i = i} {j} {n} {v} x = record { exist = x .exist; accepted = f .accepted j v (x .accepted); what = f .proposed i n v (x .what) }
-
-  heard-more : {A i : ℕ} {h : Heard} → HeardInv K A i h → HeardInv K′ A i h
-  heard-more {i = i} {h} x = record { set = received-more (x .set); votes = votes-more (x .votes); what = f .proposed i (h .number) (h .set) (x .what) }
-
-  carries-more : (A : ℕ) (m : Message) (k : Kind) → Carries K A m k → Carries K′ A m k
-  carries-more A m free x = tt
-  carries-more A m internal x = tt
-  carries-more A m proposal x = record { exist = x .exist; what = f .proposed (m .proposer .0) (m .number) (m .set) (x .what) }
-  carries-more A m acknowledgement x = voted-more x
-  carries-more A m rejection x = tt
-  carries-more A m announcement x = voted-more x
-  carries-more A m noKind x = tt
-
-  pub inv-more : {z : Sizes} {s : State} → Inv z K s → Inv z K′ s
-  inv-more {z} {s} x = record {
-    manyProposers = x .manyProposers;
-    manyAcceptors = x .manyAcceptors;
-    manyLearners = x .manyLearners;
-    manySlots = x .manySlots;
-    proposers = λ i. let p = x .proposers i in record {
-      buffered = received-more (p .buffered);
-      proposed = received-more (p .proposed);
-      gathered = received-more (p .gathered);
-      decided = received-more (p .decided);
-      votes = votes-more (p .votes);
-      choice = chosen-more (p .choice);
-    };
-    acceptors = λ j. received-more (x .acceptors j);
-    learners = λ l. let y = x .learners l in record {
-      learnt = received-more (y .learnt);
-      choice = chosen-more (y .choice);
-      heard = λ i. heard-more (y .heard i);
-    };
-    slots = λ i. let y = x .slots i in record {
-      set = received-more (y .set);
-      carries = carries-more (z .acceptors) (slotOf s i) (kindOf (slotOf s i .kind)) (y .carries);
-    };
-  }
 
 -- ---- sets
 
@@ -168,9 +84,6 @@ module _ {K : Known} where
 
   pub received-∪ : {u v : Scans} → AllReceived K u → AllReceived K v → AllReceived K (u ∪ v)
   received-∪ x y = record { each = λ k m. elim (∈-∪ m) [ inl p ↦ x .each k p | inr p ↦ y .each k p ] }
-
-  pub received-only : (b : ℕ) → K .received b → AllReceived K (only b)
-  received-only b g = record { each = λ k m. subst (K .received) (sym (only-∈ b k m)) g }
 
   pub votes-none : {A : ℕ} {v : Scans} → Votes K A none v
   votes-none {A} = record { exist = fits-none A; each = λ j m. absurd (not-among-none m) }
@@ -183,9 +96,6 @@ module _ {K : Known} where
 
 -- by these a rule keeps the facts of a record
 ruleset kept = (received-∪, received-empty, votes-none, votes-with, chosen)
-
-pub free-inv : {K : Known} {A : ℕ} → MessageInv K A freeSlot
-free-inv = record { set = received-empty; carries = tt }
 
 -- ---- the rules of a proposer
 
@@ -224,10 +134,6 @@ module _ {K : Known} (q : Acceptor) {v : Scans} (r : AllReceived K v) where
   pub gaining-inv : AllReceived K (q .accepted) → AllReceived K (gaining q v .accepted)
   unfolding gaining
   gaining-inv x = search received-∪
-
-pub crashed-acceptor-inv : {K : Known} (q : Acceptor) → AllReceived K (q .accepted) → AllReceived K (crashedAcceptor q .accepted)
-unfolding crashedAcceptor
-crashed-acceptor-inv q x = x
 
 -- ---- one number, one set
 
@@ -271,7 +177,3 @@ module _ {K : Known} {A : ℕ} (one : OneSet K) where
     where
       now : HeardInv K A (m .proposer .0) (newlyHeard l m)
       now = hearing-inv (heardOf l (m .proposer .0)) m (x .heard (m .proposer .0)) r y
-
-pub crashed-learner-inv : {K : Known} {A : ℕ} {l : Learner} → LearnerInv K A l → LearnerInv K A (crashedLearner l)
-unfolding crashedLearner
-crashed-learner-inv x = record { learnt = x .learnt; choice = x .choice; heard = x .heard }

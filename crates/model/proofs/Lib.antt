@@ -6,11 +6,14 @@ pub mod Lists
 pub mod RuleLaws
 pub mod Steps
 pub mod States
-pub mod Later
 pub mod Invariant
-pub mod Kept
+pub mod Changes
+pub mod Grows
+pub mod Keeps
+pub mod NetworkSafety
 pub mod Moments
 pub mod Answers
+pub mod Carried
 pub mod Safety
 pub mod RuleRanges
 pub mod InRange

@@ -1,11 +1,10 @@
 -- The moments of a run follow each other by steps.
-use mathlib.Core.Path.{_≡_, refl, sym, ap, subst}
+use mathlib.Core.Path.{_≡_, refl, sym, ap}
 use mathlib.Core.Logic.{_⊎_, inl, inr}
 use mathlib.Core.List.{List, [], _∷_}
 use Prim.Native.Nat.{ℕ, zero, suc, _≤_}
 use native.Mathlib.Omega.{arith}
 use native.Mathlib.Nat.{suc-ne-zero}
-use native.Mathlib.Decide.{le-ind}
 use lib.ListN.{length, take}
 use lib.Seq.{take-length}
 use Rattle.sizes.specs.declared.Sizes.{Sizes}
@@ -15,7 +14,6 @@ use Rattle.model.specs.Events.{tests}
 use Rattle.model.specs.Step.{step, run}
 use Rattle.model.specs.Safety.{noEvent, nth, moment}
 use Rattle.model.proofs.Steps.{step-ind, ok-tests}
-use Rattle.model.proofs.Later.{Later, later-refl, later-trans, step-later}
 
 no-event-keeps : (z : Sizes) (s : State) → step z s noEvent .state ≡ s
 unfolding tests
@@ -40,11 +38,6 @@ module _ (z : Sizes) (es : List Event) where
   pub next : (i : ℕ) → moment z es (suc i) ≡ step z (moment z es i) (nth es i) .state
   unfolding moment
   next i = run-next z (fresh z) es i
-
-  pub later : (i j : ℕ) → i ≤ j → Later (moment z es i) (moment z es j)
-  later i j h =
-      le-ind (λ (n : ℕ). Later (moment z es i) (moment z es n)) (later-refl (moment z es i))
-      (λ n k x. later-trans x (subst (Later (moment z es n)) (sym (next n)) (step-later z (moment z es n) (nth es n)))) j h
 
 pub earlier : (i j : ℕ) → (i ≤ j) ⊎ (j ≤ i)
 earlier zero j = inl (omega arith)

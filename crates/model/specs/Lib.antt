@@ -5,3 +5,5 @@ pub mod Events
 pub mod Ranges
 pub mod Step
 pub mod Safety
+pub mod Network
+pub mod NetworkSafety

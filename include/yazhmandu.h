@@ -86,6 +86,34 @@ extern "C" {
 #define YMD_MOST_TABLE_BYTES 1089
 #define YMD_MOST_TEXT_BYTES 163859
 
+/* The stack of a thread that calls ymd_run_text: the call takes about 176,000
+   bytes of it. */
+#define YMD_RUN_TEXT_STACK_BYTES 262144
+
+/* ---- Storing ------------------------------------------------------------ */
+
+/*
+ * The parties of a run agree only if none of them forgets what it sent. The
+ * same holds for proposers, acceptors and learners:
+ *
+ *   - The whole record is stored, so that it outlives the process and a power
+ *     cut, before anything that a call's result says is sent to another party
+ *     or shown to anyone: a message, a learnt or a decided set.
+ *   - Then the party may be killed at any point and goes on from its stored
+ *     record. To the others it was only slow, and what it did not send any more
+ *     was only lost.
+ *   - A record that was lost, or is older than what was sent or shown (a copy
+ *     from a backup, say), is never used again in this run, and its party does
+ *     not begin again. It has crashed for good; the others go on.
+ *
+ * A party begins once in a run, with a record of 1 (alive), then zeros. One
+ * that begins again proposes under numbers that it has used: learners then hear
+ * two sets under one number and learn sets that are not comparable.
+ *
+ * The section PROTOCOL of yazhmandu(3) has the messages: who sends which, when,
+ * and what may be sent again.
+ */
+
 /* ---- Byte layouts ------------------------------------------------------- */
 
 /*
@@ -97,8 +125,9 @@ extern "C" {
  *   set of acceptors  1 byte, acceptor 0 the lowest bit
  *   proposal number   2 bytes
  *
- * The record of a party that has just begun is 1 (alive), then zeros. A party
- * that has crashed has 0 in its byte `alive`, and its calls refuse 5.
+ * The record of a party that has just begun is 1 (alive), then zeros; a party
+ * begins once (see Storing). One that has crashed for good has 0 in its byte
+ * `alive`, and its calls refuse 5.
  */
 
 #define YMD_SET_BYTES 8
@@ -180,7 +209,7 @@ uint8_t ymd_where_is(const uint8_t *table, size_t table_length,
  * Takes: the run's S, the acceptor's record (9 bytes), the set (8 bytes).
  * Gives: the updated record, and in reply 1 and the set to acknowledge to the
  * proposer and every learner, or 0 and the set to reject it with, to the
- * proposer. The record has to be stored before the reply is sent.
+ * proposer. The record is stored before any of these is sent.
  * Refuses: 1 for S or the record; then 3 for a set that is not 8 bytes or not
  * within S; then 5.
  */
@@ -193,7 +222,7 @@ uint8_t ymd_answer_proposal(uint16_t scans, uint8_t *record,
  * Takes: the run's P, A and S, the learner's record (9 + 11 * P bytes), and the
  * acknowledgement: proposer, acceptor, number and set (8 bytes).
  * Gives: the updated record, and *learns = 1 where the learnt set changed, 0
- * where it did not.
+ * where it did not. The record is stored before the set is shown.
  * Refuses: 1 for P, A, S or the record; then 3 for a proposer not below P, an
  * acceptor not below A, a number that is not 1 to 1,000, or a set that is not 8
  * bytes or not within S; then 5.
@@ -207,12 +236,13 @@ uint8_t ymd_hear(uint16_t proposers, uint16_t acceptors, uint16_t scans,
 
 /*
  * Each takes the run's A and S and the proposer's record (38 bytes), and gives
- * the updated record. Each refuses 1 for A, S or the record first.
+ * the updated record. Each refuses 1 for A, S or the record first. The record
+ * is stored before a proposal is sent or a decided set is shown.
  */
 
 /*
  * The buffered set gains a set (8 bytes): a received scan's, or an internal
- * message's.
+ * message's. To buffer again what is proposed already costs a number.
  * Refuses: 1; then 3 for a set that is not 8 bytes or not within S; then 5.
  */
 uint8_t ymd_buffer(uint16_t acceptors, uint16_t scans, uint8_t *record,
@@ -220,7 +250,8 @@ uint8_t ymd_buffer(uint16_t acceptors, uint16_t scans, uint8_t *record,
 
 /*
  * Propose: what was proposed and what is buffered, under the next number. The
- * number and the set to send to every acceptor stand in the record.
+ * number and the set to send to every acceptor stand in the record; sent again
+ * from there, they are a copy.
  * Refuses: 1; then 5; then 6 where the proposer is active or buffered is empty;
  * then 7.
  */
@@ -295,6 +326,7 @@ uint8_t ymd_check_table(const uint8_t *bytes, size_t length);
  * Gives: the text in the first *length bytes of text, with no zero byte after
  * it; bytes past them stay. YMD_MOST_TEXT_BYTES are always enough.
  * Refuses: 8 where the text is longer than text_length.
+ * The thread needs a stack of YMD_RUN_TEXT_STACK_BYTES.
  */
 uint8_t ymd_run_text(uint8_t *text, size_t text_length, const uint8_t *schedule,
                      size_t schedule_length, size_t *length);

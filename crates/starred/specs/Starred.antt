@@ -135,33 +135,67 @@ oneRejected =
 abbrev pub fullTable : State
 fullTable = stateOf proposedFirst acceptedFirst 1 8 (Proposal 0 1 scan₀ 0 ∷ replicate 15 (Internal scan₀ 0))
 
-abbrev pub starred : List Example
-starred =
-    -- A = 1, 2, 3, 7: majority 1, 2, 2, 4
+-- ---- the examples, as document 01 groups them
+
+-- A = 1, 2, 3, 7: majority 1, 2, 2, 4
+abbrev pub majorities : List Example
+majorities =
     (value (majority 1) is value 1)
     ∷ (value (majority 2) is value 2)
     ∷ (value (majority 3) is value 2)
     ∷ (value (majority 7) is value 4)
-    -- accepted {0}, proposal {0}: acknowledged (kind 3); accepted {0}, proposal {1}: rejected (kind 4) with {0,1}
-    ∷ (value (slotOf (run (sizesOf 1 1) (offered scan₀) (deliverSlot 0 ∷ [])) 0 .kind) is value 3)
+    ∷ []
+
+-- accepted {0}, proposal {0}: acknowledged (kind 3); accepted {0}, proposal {1}: rejected (kind 4) with {0,1}
+abbrev pub acceptorAnswers : List Example
+acceptorAnswers =
+    (value (slotOf (run (sizesOf 1 1) (offered scan₀) (deliverSlot 0 ∷ [])) 0 .kind) is value 3)
     ∷ (value (slotOf (run (sizesOf 1 1) (offered scan₁) (deliverSlot 0 ∷ [])) 0 .kind) is value 4)
     ∷ (value (slotOf (run (sizesOf 1 1) (offered scan₁) (deliverSlot 0 ∷ [])) 0 .set .bits) is value 0b11)
-    -- A = 3, the same acknowledgement delivered twice: Decide refused 6
-    ∷ (lastOf (answers (sizesOf 3 1) acknowledgedTwice (deliverSlot 0 ∷ deliverSlot 1 ∷ decideIt ∷ [])) is refused 6)
-    -- A = 3, two acknowledged {0}, one rejected with {0,2}: Decide gives {0}
-    ∷ (lastOf (answers (sizesOf 3 1) oneRejected (deliverSlot 0 ∷ deliverSlot 1 ∷ deliverSlot 2 ∷ decideIt ∷ [])) is value 0b1)
-    -- number 1,000, passive, buffered not empty: 7; buffered empty: 6
-    ∷ (lastOf (answers (sizesOf 1 1) (stateOf (atThousand scan₀) freshAcceptor 1 1 []) (event 5 0 0 ∷ [])) is refused 7)
+    ∷ []
+
+-- A = 3, the same acknowledgement delivered twice: Decide refused 6
+abbrev pub countedOnce : List Example
+countedOnce =
+    (lastOf (answers (sizesOf 3 1) acknowledgedTwice (deliverSlot 0 ∷ deliverSlot 1 ∷ decideIt ∷ [])) is refused 6)
+    ∷ []
+
+-- A = 3, two acknowledged {0}, one rejected with {0,2}: Decide gives {0}
+abbrev pub decidedSet : List Example
+decidedSet =
+    (lastOf (answers (sizesOf 3 1) oneRejected (deliverSlot 0 ∷ deliverSlot 1 ∷ deliverSlot 2 ∷ decideIt ∷ [])) is value 0b1)
+    ∷ []
+
+-- number 1,000, passive, buffered not empty: 7; buffered empty: 6
+abbrev pub lastNumber : List Example
+lastNumber =
+    (lastOf (answers (sizesOf 1 1) (stateOf (atThousand scan₀) freshAcceptor 1 1 []) (event 5 0 0 ∷ [])) is refused 7)
     ∷ (lastOf (answers (sizesOf 1 1) (stateOf (atThousand empty) freshAcceptor 1 1 []) (event 5 0 0 ∷ [])) is refused 6)
-    -- L = 8, full table, Deliver of an acceptable proposal: 8
-    ∷ (lastOf (answers (sizesOf 1 8) fullTable (deliverSlot 0 ∷ [])) is refused 8)
-    -- dock tick 5, scan tick 4,294,967,290, dock time 1,000: 989; dock time 10: 9
-    ∷ (ofClock (clockRule 5 4_294_967_290 1_000) is value 989)
+    ∷ []
+
+-- L = 8, full table, Deliver of an acceptable proposal: 8
+abbrev pub noRoom : List Example
+noRoom =
+    (lastOf (answers (sizesOf 1 8) fullTable (deliverSlot 0 ∷ [])) is refused 8)
+    ∷ []
+
+-- dock tick 5, scan tick 4,294,967,290, dock time 1,000: 989; dock time 10: 9
+abbrev pub scanTimes : List Example
+scanTimes =
+    (ofClock (clockRule 5 4_294_967_290 1_000) is value 989)
     ∷ (ofClock (clockRule 5 4_294_967_290 10) is refused 9)
-    -- bytes 80 00: 12; FF FF 03: 65,535
-    ∷ (ofRead (readNumber Schedule (0x80 ∷ 0x00 ∷ []) 0) is refused 12)
+    ∷ []
+
+-- bytes 80 00: 12; FF FF 03: 65,535
+abbrev pub codedNumbers : List Example
+codedNumbers =
+    (ofRead (readNumber Schedule (0x80 ∷ 0x00 ∷ []) 0) is refused 12)
     ∷ (ofRead (readNumber Schedule (0xff ∷ 0xff ∷ 0x03 ∷ []) 0) is value 65_535)
     ∷ []
+
+abbrev pub starred : List Example
+starred =
+    majorities ++ acceptorAnswers ++ countedOnce ++ decidedSet ++ lastNumber ++ noRoom ++ scanTimes ++ codedNumbers
 
 -- every example of a list holds
 pub data Hold : List Example → Type 0 where

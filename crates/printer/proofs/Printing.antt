@@ -1,17 +1,15 @@
 -- A schedule that is read, run and printed: what is printed is the text of its bytes.
 use mathlib.Core.Path.{_≡_, refl, sym, ap, _∙_}
-use mathlib.Core.Bool.{Bool, true, false}
+use mathlib.Core.Bool.{true, false}
 use mathlib.Core.List.{List, _++_, map}
 use Prim.Native.Nat.{ℕ, zero, suc, _+_, _*_, _≤_}
 use native.Mathlib.Omega.{arith}
 use lib.Dec.{ltb}
 use lib.ListN.{length, drop, getD, List·getD-append}
 use lib.Seq.{sets, sets-eq, length-sets}
-use borrow.Author.Tests.{le-leb, le-ltb, ltb-false}
+use borrow.Author.Tests.{le-leb, le-ltb}
 use Rattle.sizes.specs.Sizes.{sizesInRange}
 use Rattle.sizes.specs.declared.Sizes.{Sizes}
-use Rattle.choice.specs.Choice.{if_then_else_}
-use Rattle.numbers.specs.Coding.{refusedWrite, leaves}
 use Rattle.numbers.specs.declared.Refusal.{Refusal}
 use Rattle.numbers.specs.declared.Written.{Written}
 use Rattle.numbers.specs.declared.Written.the-variants as written
@@ -149,15 +147,3 @@ text-most bytes = text-by bytes (readSchedule bytes) refl
 pub never-eight : (bytes buffer : List ℕ) → longestText ≤ length buffer → putAnswer (text bytes) buffer ≡ written.Next (length (text bytes))
 unfolding putAnswer
 never-eight bytes buffer h = rw (le-ltb (length buffer) (length (text bytes)) (omega (arith, text-most bytes)))
-
--- what is answered as the text's length lies within the buffer
-within-by : (t buffer : List ℕ) (n : ℕ) (b : Bool) → ltb (length buffer) (length t) ≡ b → (if b then refusedWrite 8 else written.Next (length t)) ≡ written.Next n
-    → n ≤ length (leaves (if b then refusedWrite 8 else written.Next (length t)) (sets buffer 0 t) buffer)
-within-by t buffer n true h q = absurd (let z : _≡_ {A = ℕ} 0 1 = cc in omega arith)
-within-by t buffer n false h q =
-    let k : length t ≡ n = cc in
-    rw (length-sets buffer 0 t) (omega (arith, k, ltb-false (length buffer) (length t) h))
-
-pub next-within : (bytes buffer after : List ℕ) (n : ℕ) → putAnswer (text bytes) buffer ≡ written.Next n → after ≡ afterPut (text bytes) buffer → n ≤ length after
-unfolding putAnswer afterPut
-next-within bytes buffer after n q e = rw e (within-by (text bytes) buffer n (ltb (length buffer) (length (text bytes))) refl q)

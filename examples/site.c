@@ -165,7 +165,8 @@ static void store(const struct party *party)
 }
 
 /* A record that is lost is not begun again: a party that does not know what it
-   sent has no part in the run any more. */
+   sent has no part in the run any more. One that is read is stored again: a kill
+   may have come after it was written and before it was on the disk. */
 static void load(struct party *party)
 {
     int file = open(party->file, O_RDONLY);
@@ -176,6 +177,7 @@ static void load(struct party *party)
         exit(EXIT_FAILURE);
     }
     close(file);
+    store(party);
 }
 
 /* The record of a party that has just begun is 1 (alive), then zeros. */

@@ -6,7 +6,6 @@
  */
 #define _POSIX_C_SOURCE 200809L
 
-#include <errno.h>
 #include <fcntl.h>
 #include <inttypes.h>
 #include <signal.h>
@@ -34,8 +33,7 @@ static void point(void)
         raise(SIGKILL);
 }
 
-/* A point before something is shown, or a party's rule is called with what
-   another one sent. */
+/* A point before a line is shown or the library is called. */
 static void told(void);
 
 /* A killed process loses nothing that it wrote, so nothing is synced here. */
@@ -68,7 +66,7 @@ static void told(void);
 #undef printf
 #undef main
 
-/* Whether the records in memory are held to those in files at such a point. */
+/* Whether every record has to be stored at such a point. */
 static bool watched;
 
 static void hold_to_file(struct party *party)

@@ -1,0 +1,1 @@
+// No code: how tight the promises of the calls are.

@@ -1,3 +1,4 @@
 pub mod One
 pub mod Texts
 pub mod Rejected
+pub mod Learning

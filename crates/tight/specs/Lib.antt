@@ -1,1 +1,2 @@
 pub mod Rejected
+pub mod Learning

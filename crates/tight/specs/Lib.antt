@@ -1,2 +1,3 @@
 pub mod Rejected
 pub mod Learning
+pub mod Moments

@@ -1,5 +1,6 @@
 -- What the proofs of several functions cite, and the laws of the layouts.
 pub mod Words
+pub mod Wide
 pub mod Parts
 pub mod Places
 pub mod LayoutLaws

@@ -9,9 +9,9 @@ use lib.Seq.{sets, sets-eq}
 use mir.Val.{boolByte}
 use borrow.Author.Tests.{ltb-true, leb-true, eqb-true, not-true, not-false}
 use Rattle.choice.specs.Choice.{if_then_else_}
-use Rattle.sets.specs.Acceptors.{mostAcceptors}
 use Rattle.sets.specs.declared.scans.Scans.{Scans}
 use Rattle.sizes.specs.Sizes.{sizesInRange}
+use Rattle.sizes.proofs.SizeLaws.{bounds}
 use Rattle.model.specs.declared.Proposer.{Proposer}
 use Rattle.choice.proofs.Tests.{and-l, and-r}
 use Rattle.layouts.specs.Layout.{sizesOf, wordBytes, setBytes, numberBytes, acceptorsBytes, flagBytes, flagged, isAnswer, isAcceptor, isProposer, proposerBytes, heardPlace, isLearner}
@@ -68,14 +68,15 @@ proposer-whole a s bytes p e = put-whole bytes (proposerBytes p) (proposer-lengt
 
 -- ---- the arguments of what passed its tests
 
--- a run has at most 8 proposers and 7 acceptors
+-- a run has at most 8 proposers, 7 acceptors and 64 scans
 pub few-proposers : (p a s : ℕ) → sizesInRange (sizesOf p a s) ≡ true → p ≤ 8
-unfolding sizesInRange
-few-proposers p a s e = search (and-l, and-r, leb-true) depth 9
+few-proposers p a s e = bounds (sizesOf p a s) e .few-proposers
 
 pub few-acceptors : (p a s : ℕ) → sizesInRange (sizesOf p a s) ≡ true → a ≤ 7
-unfolding sizesInRange mostAcceptors
-few-acceptors p a s e = search (and-l, and-r, leb-true) depth 9
+few-acceptors p a s e = bounds (sizesOf p a s) e .few-acceptors
+
+pub few-scans : (p a s : ℕ) → sizesInRange (sizesOf p a s) ≡ true → s ≤ 64
+few-scans p a s e = bounds (sizesOf p a s) e .few-scans
 
 pub proposer-sizes : (a s : ℕ) (bytes : List ℕ) → isProposer a s bytes ≡ true → sizesInRange (sizesOf 1 a s) ≡ true
 unfolding isProposer

@@ -16,7 +16,7 @@ pub fn acceptor_at(kept: &[u8]) -> Acceptor
 }
 
 // Whether the bytes are an acceptor's record of a run of so many scans.
-pub fn is_acceptor(kept: &[u8], scans: u16) -> bool
+pub fn is_acceptor(kept: &[u8], scans: u64) -> bool
     ensures { λ r. ⌜ r ≡ isAcceptor scans (now (kept .entry)) ⌝ }
 {
     let z = sizes_of(1, 1, scans);

@@ -1,20 +1,34 @@
 // Values out of bytes, and into them: every number low byte first. Past the end a byte reads 0, and one that is put there is left out.
 ghost use mathlib.Core.List.{[], _∷_};
 ghost use mathlib.Core.Path.{_≡_};
-ghost use Prim.Native.Nat.{_≤_};
+ghost use Prim.Native.Nat.{_≤_, min};
 ghost use lib.ListN.{getD};
 ghost use lib.Seq.{sets};
 ghost use Rattle.layouts.specs.Layout.{sizesOf, wordAt, wordBytes, setAt, setBytes, numberAt, numberBytes, acceptorsAt, acceptorsBytes, isFlag, flagAt, flagBytes, isSet, isAnswer, flagged};
 use choice::both;
 use model::proposers::GREATEST_NUMBER;
 use sets::acceptors::Acceptors;
+use sets::scans::MOST_SCANS;
 use sets::scans::Scans;
 use sizes::Sizes;
 
-// The sizes of a run, as a call takes them; the others are the least.
-pub fn sizes_of(proposers: u16, acceptors: u16, scans: u16) -> Sizes
-    ensures { λ r. ⌜ r ≡ sizesOf proposers acceptors scans ⌝ }
+// The number, or the greatest where it is above that.
+pub(crate) fn at_most(n: u64, greatest: u16) -> u16
+    ensures { λ r. ⌜ r ≡ min n greatest ⌝ }
 {
+    if n < greatest as u64 {
+        return n as u16;
+    }
+    greatest
+}
+
+// The sizes of a run, as a call takes them; the others are the least. One of more than 16 bits counts as 65,535, which is out of every range.
+pub(crate) fn sizes_of(proposers: u64, acceptors: u64, scans: u64) -> Sizes
+    ensures { λ r. ⌜ r ≡ sizesOf (min proposers 65_535) (min acceptors 65_535) (min scans 65_535) ⌝ }
+{
+    let proposers = at_most(proposers, 65_535);
+    let acceptors = at_most(acceptors, 65_535);
+    let scans = at_most(scans, 65_535);
     Sizes {
         proposers,
         acceptors,
@@ -83,13 +97,14 @@ pub(crate) fn put_set(bytes: &mut [u8], at: u16, set: Scans)
     put_word(bytes, at, 8, set.bits);
 }
 
-// Whether the bytes are a set within so many scans.
-pub fn is_set(bytes: &[u8], scans: u16) -> bool
+// Whether the bytes are a set within so many scans. More than a set can hold count as that many.
+pub fn is_set(bytes: &[u8], scans: u64) -> bool
     ensures { λ r. ⌜ r ≡ isSet scans (now (bytes .entry)) ⌝ }
 {
     if bytes.len() != 8 {
         return false;
     }
+    let scans = at_most(scans, MOST_SCANS as u16);
     set_at(bytes, 0).fits(scans as u32)
 }
 
@@ -120,11 +135,11 @@ pub(crate) fn put_acceptors(bytes: &mut [u8], at: u16, acceptors: Acceptors)
 }
 
 // Whether it is an answer of an acceptor of the run, to a proposal's number.
-pub fn is_answer(acceptors: u16, acceptor: u64, number: u64) -> bool
+pub fn is_answer(acceptors: u64, acceptor: u64, number: u64) -> bool
     ensures { λ r. ⌜ r ≡ isAnswer acceptors acceptor number ⌝ }
 {
     both(
-        acceptor < acceptors as u64,
+        acceptor < acceptors,
         both(1 <= number, number <= GREATEST_NUMBER as u64),
     )
 }

@@ -1,10 +1,11 @@
 // A learner's record. It has 8 places: a greater number of proposers counts as 8.
 ghost use mathlib.Core.Path.{_≡_};
-ghost use Prim.Native.Nat.{_≤_, _<_, min};
+ghost use Prim.Native.Nat.{_≤_, _<_};
 ghost use lib.ListN.{take};
 ghost use lib.Seq.{sets};
 ghost use Rattle.layouts.specs.Layout.{heardPlace, heardAt, heardBytes, placesBytes, isLearner, learnerAt, learnerBytes};
 use crate::fields::acceptors_at;
+use crate::fields::at_most;
 use crate::fields::flag_at;
 use crate::fields::is_flag;
 use crate::fields::number_at;
@@ -43,21 +44,12 @@ fn put_heard(kept: &mut [u8], proposer: u16, heard: Heard)
     put_acceptors(kept, at + 10, heard.acceptors);
 }
 
-fn at_most_eight(proposers: u16) -> u16
-    ensures { λ r. ⌜ r ≡ min proposers 8 ⌝ }
-{
-    if proposers < 8 {
-        return proposers;
-    }
-    8
-}
-
-pub fn learner_at(kept: &[u8], proposers: u16) -> Learner
+pub fn learner_at(kept: &[u8], proposers: u64) -> Learner
     ensures { λ r. ⌜ r ≡ learnerAt proposers (now (kept .entry)) ⌝ }
 {
     let alive = flag_at(kept, 0);
     let learnt = set_at(kept, 1);
-    let count = at_most_eight(proposers);
+    let count = at_most(proposers, 8);
     let mut heard = [Heard::unheard(); 8];
     let mut i: u16 = 0;
     while i < count {
@@ -84,16 +76,16 @@ fn put_places(kept: &mut [u8], l: Learner, count: u16)
     }
 }
 
-pub fn put_learner(kept: &mut [u8], l: Learner, proposers: u16)
+pub fn put_learner(kept: &mut [u8], l: Learner, proposers: u64)
     ensures { λ _. ⌜ now (kept .exit) ≡ sets (now (kept .entry)) 0 (learnerBytes proposers l) ⌝ }
 {
     put_flag(kept, 0, l.alive);
     put_set(kept, 1, l.learnt);
-    put_places(kept, l, at_most_eight(proposers));
+    put_places(kept, l, at_most(proposers, 8));
 }
 
 // Whether the bytes are a learner's record of a run of these sizes.
-pub fn is_learner(kept: &[u8], proposers: u16, acceptors: u16, scans: u16) -> bool
+pub fn is_learner(kept: &[u8], proposers: u64, acceptors: u64, scans: u64) -> bool
     ensures { λ r. ⌜ r ≡ isLearner proposers acceptors scans (now (kept .entry)) ⌝ }
 {
     let z = sizes_of(proposers, acceptors, scans);

@@ -54,7 +54,7 @@ pub fn put_proposer(kept: &mut [u8], p: Proposer)
 }
 
 // Whether the bytes are a proposer's record of a run of so many acceptors and scans.
-pub fn is_proposer(kept: &[u8], acceptors: u16, scans: u16) -> bool
+pub fn is_proposer(kept: &[u8], acceptors: u64, scans: u64) -> bool
     ensures { λ r. ⌜ r ≡ isProposer acceptors scans (now (kept .entry)) ⌝ }
 {
     let z = sizes_of(1, acceptors, scans);

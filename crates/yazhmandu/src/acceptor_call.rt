@@ -11,7 +11,7 @@ use layouts::fields::set_at;
 // 1 for the number of scans and the record, 3 for the set, 5 where the acceptor has crashed.
 #[no_mangle]
 pub extern "C" fn ymd_answer_proposal(
-    scans: u16,
+    scans: u64,
     kept: &mut [u8],
     set: &[u8],
     reply: &mut [u8; 9],

@@ -15,9 +15,9 @@ use sets::ProposerId;
 // 1 for the sizes and the record, 3 for the proposer, the acceptor, the number and the set, 5 where the learner has crashed.
 #[no_mangle]
 pub extern "C" fn ymd_hear(
-    proposers: u16,
-    acceptors: u16,
-    scans: u16,
+    proposers: u64,
+    acceptors: u64,
+    scans: u64,
     kept: &mut [u8],
     proposer: u64,
     acceptor: u64,
@@ -30,7 +30,7 @@ pub extern "C" fn ymd_hear(
     if !is_learner(kept, proposers, acceptors, scans) {
         return 1;
     }
-    if proposers as u64 <= proposer {
+    if proposers <= proposer {
         return 3;
     }
     if !is_answer(acceptors, acceptor, number) {

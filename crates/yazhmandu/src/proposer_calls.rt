@@ -13,7 +13,7 @@ use sets::AcceptorId;
 
 // Buffers the set of a received scan or of an internal message.
 #[no_mangle]
-pub extern "C" fn ymd_buffer(acceptors: u16, scans: u16, kept: &mut [u8], set: &[u8]) -> u8
+pub extern "C" fn ymd_buffer(acceptors: u64, scans: u64, kept: &mut [u8], set: &[u8]) -> u8
     ensures { λ r. ⌜ (r ≡ bufferNo acceptors scans (now (kept .entry)) (now (set .entry))) × (now (kept .exit) ≡ bufferRecord acceptors scans (now (kept .entry)) (now (set .entry))) ⌝ }
 {
     if !is_proposer(kept, acceptors, scans) {
@@ -33,8 +33,8 @@ pub extern "C" fn ymd_buffer(acceptors: u16, scans: u16, kept: &mut [u8], set: &
 // Takes an acceptor's acknowledgement of a number. A late one is ok and does nothing.
 #[no_mangle]
 pub extern "C" fn ymd_acknowledged(
-    acceptors: u16,
-    scans: u16,
+    acceptors: u64,
+    scans: u64,
     kept: &mut [u8],
     acceptor: u64,
     number: u64,
@@ -61,8 +61,8 @@ pub extern "C" fn ymd_acknowledged(
 // Takes an acceptor's rejection of a number, with the set that it sent. A late one is ok and does nothing.
 #[no_mangle]
 pub extern "C" fn ymd_rejected(
-    acceptors: u16,
-    scans: u16,
+    acceptors: u64,
+    scans: u64,
     kept: &mut [u8],
     acceptor: u64,
     number: u64,
@@ -95,7 +95,7 @@ pub extern "C" fn ymd_rejected(
 
 // Propose: the number and the set to send stand in the record.
 #[no_mangle]
-pub extern "C" fn ymd_propose(acceptors: u16, scans: u16, kept: &mut [u8]) -> u8
+pub extern "C" fn ymd_propose(acceptors: u64, scans: u64, kept: &mut [u8]) -> u8
     ensures { λ r. ⌜ (r ≡ callNo acceptors scans (now (kept .entry)) proposeNo) × (now (kept .exit) ≡ callRecord acceptors scans (now (kept .entry)) proposeNo proposing) ⌝ }
 {
     if !is_proposer(kept, acceptors, scans) {
@@ -112,7 +112,7 @@ pub extern "C" fn ymd_propose(acceptors: u16, scans: u16, kept: &mut [u8]) -> u8
 
 // Refine: the number and the set to send stand in the record.
 #[no_mangle]
-pub extern "C" fn ymd_refine(acceptors: u16, scans: u16, kept: &mut [u8]) -> u8
+pub extern "C" fn ymd_refine(acceptors: u64, scans: u64, kept: &mut [u8]) -> u8
     ensures { λ r. ⌜ (r ≡ callNo acceptors scans (now (kept .entry)) (refineNo acceptors)) × (now (kept .exit) ≡ callRecord acceptors scans (now (kept .entry)) (refineNo acceptors) refining) ⌝ }
 {
     if !is_proposer(kept, acceptors, scans) {
@@ -129,7 +129,7 @@ pub extern "C" fn ymd_refine(acceptors: u16, scans: u16, kept: &mut [u8]) -> u8
 
 // Decide: the decided set stands in the record.
 #[no_mangle]
-pub extern "C" fn ymd_decide(acceptors: u16, scans: u16, kept: &mut [u8]) -> u8
+pub extern "C" fn ymd_decide(acceptors: u64, scans: u64, kept: &mut [u8]) -> u8
     ensures { λ r. ⌜ (r ≡ callNo acceptors scans (now (kept .entry)) (decideNo acceptors)) × (now (kept .exit) ≡ callRecord acceptors scans (now (kept .entry)) (decideNo acceptors) deciding) ⌝ }
 {
     if !is_proposer(kept, acceptors, scans) {

@@ -1,10 +1,9 @@
-use mathlib.Core.Bool.{true, false}
-use mathlib.Core.Path.{_≡_, ap, _∙_}
+use native.Mathlib.Omega.{arith}
 use borrow.Author.Tests.{eq-eqb, ne-eqb}
 use borrow.Author.Needs.{needs}
-use Rattle.sizes.specs.Sizes.{sizesInRange}
-use Rattle.layouts.specs.Layout.{sizesOf, isLearner}
-use Rattle.layouts.proofs.Parts.{passed, failed}
+use Rattle.layouts.specs.Layout.{isLearner}
+use Rattle.layouts.proofs.Parts.{passed, failed, few-proposers}
+use Rattle.layouts.proofs.Wide.{sizes-tested, narrowed-same}
 use Rattle.layouts.proofs.learners.is_learner.Statement.{statement}
 use Rattle.layouts.proofs.learners.is_learner.Tie as tie
 
@@ -19,14 +18,20 @@ unfolding isLearner
 returns c =
     let s = c .before .before .before .before in
     let z = c .before .before .sizes-of .ensures in
-    let e : sizesInRange (sizesOf (s .args .proposers) (s .args .acceptors) (s .args .scans)) ≡ false = failed (c .before .in-range .ensures ∙ ap sizesInRange z) (c .if1 .taken) in
+    let e = failed (sizes-tested (s .args .proposers) (s .args .acceptors) (s .args .scans) z (c .before .in-range .ensures)) (c .if1 .taken) in
     simp e
 
 mul-if2 : tie.Need-mul-if2
-mul-if2 c = search needs
+mul-if2 c =
+    let s = c .before .before .before .before in
+    let e = passed (sizes-tested (s .args .proposers) (s .args .acceptors) (s .args .scans) (c .before .before .sizes-of .ensures) (c .before .in-range .ensures)) (c .if1 .left) in
+    omega (arith, few-proposers (s .args .proposers) (s .args .acceptors) (s .args .scans) e)
 
 add-if2 : tie.Need-add-if2
-add-if2 c = search needs
+add-if2 c =
+    let s = c .before .before .before .before in
+    let e = passed (sizes-tested (s .args .proposers) (s .args .acceptors) (s .args .scans) (c .before .before .sizes-of .ensures) (c .before .in-range .ensures)) (c .if1 .left) in
+    omega (arith, few-proposers (s .args .proposers) (s .args .acceptors) (s .args .scans) e)
 
 returns-2 : tie.Need-returns-2
 unfolding isLearner
@@ -34,7 +39,7 @@ returns-2 c =
     let t₁ = c .before in
     let s = t₁ .before .before .before .before in
     let z = t₁ .before .before .sizes-of .ensures in
-    let e : sizesInRange (sizesOf (s .args .proposers) (s .args .acceptors) (s .args .scans)) ≡ true = passed (t₁ .before .in-range .ensures ∙ ap sizesInRange z) (t₁ .if1 .left) in
+    let e = passed (sizes-tested (s .args .proposers) (s .args .acceptors) (s .args .scans) z (t₁ .before .in-range .ensures)) (t₁ .if1 .left) in
     simp (e, ne-eqb _ _ (c .if2 .taken))
 
 is-flag-requires : tie.Need-is-flag-requires
@@ -47,7 +52,7 @@ returns-3 c =
     let t₁ = t₂ .before in
     let s = t₁ .before .before .before .before in
     let z = t₁ .before .before .sizes-of .ensures in
-    let e : sizesInRange (sizesOf (s .args .proposers) (s .args .acceptors) (s .args .scans)) ≡ true = passed (t₁ .before .in-range .ensures ∙ ap sizesInRange z) (t₁ .if1 .left) in
+    let e = passed (sizes-tested (s .args .proposers) (s .args .acceptors) (s .args .scans) z (t₁ .before .in-range .ensures)) (t₁ .if1 .left) in
     simp (e, eq-eqb _ _ (t₂ .if2 .left), failed (c .before .is-flag .ensures) (c .if3 .taken))
 
 learner-at-requires : tie.Need-learner-at-requires
@@ -64,8 +69,8 @@ returns-4 c =
     let t₁ = t₂ .before in
     let s = t₁ .before .before .before .before in
     let z = t₁ .before .before .sizes-of .ensures in
-    let e : sizesInRange (sizesOf (s .args .proposers) (s .args .acceptors) (s .args .scans)) ≡ true = passed (t₁ .before .in-range .ensures ∙ ap sizesInRange z) (t₁ .if1 .left) in
-    simp (e, eq-eqb _ _ (t₂ .if2 .left), passed (t₃ .before .is-flag .ensures) (t₃ .if3 .left)) (simp (c .in-range2 .ensures, c .before .learner-at .ensures, z))
+    let e = passed (sizes-tested (s .args .proposers) (s .args .acceptors) (s .args .scans) z (t₁ .before .in-range .ensures)) (t₁ .if1 .left) in
+    simp (e, eq-eqb _ _ (t₂ .if2 .left), passed (t₃ .before .is-flag .ensures) (t₃ .if3 .left)) (simp (c .in-range2 .ensures, c .before .learner-at .ensures, z, narrowed-same (s .args .proposers) (s .args .acceptors) (s .args .scans) e))
 
 pub is-learner-spec : {M : Type 1} → statement M
 is-learner-spec =

@@ -23,15 +23,15 @@ flag-at-requires c κs = search needs
 set-at-requires : tie.Need-set-at-requires Inv-loop μ-loop
 set-at-requires c κs = search needs
 
-at-most-eight-requires : tie.Need-at-most-eight-requires Inv-loop μ-loop
-at-most-eight-requires c κs = search needs
+at-most-requires : tie.Need-at-most-requires Inv-loop μ-loop
+at-most-requires c κs = search needs
 
 unheard-requires : tie.Need-unheard-requires Inv-loop μ-loop
 unheard-requires c κs = search needs
 
 loop-holds : tie.Need-loop-holds Inv-loop μ-loop
 unfolding placesAt
-loop-holds c = (search needs, omega (arith, c .before .at-most-eight .ensures), simp (c .unheard .ensures))
+loop-holds c = (search needs, omega (arith, c .before .at-most .ensures), simp (c .unheard .ensures))
 
 heard-at-requires : tie.Need-heard-at-requires Inv-loop μ-loop
 heard-at-requires c κs = search needs
@@ -62,7 +62,7 @@ unfolding learnerAt
 returns c =
     let s = c .before .before .before .before .before .before .before in
     let l = c .before .loop in
-    let z : l .i ≡ min (s .args .proposers) 8 = omega (arith, c .before .before .before .at-most-eight .ensures) in
+    let z : l .i ≡ min (s .args .proposers) 8 = omega (arith, c .before .before .before .at-most .ensures) in
     simp (c .before .before .before .before .before .flag-at .ensures, c .before .before .before .before .set-at .ensures, l .inv .2, z, eight-left (s .args .proposers))
 
 pub learner-at-spec : {M : Type 1} → statement M
@@ -73,7 +73,7 @@ learner-at-spec =
     μ-loop
     flag-at-requires
     set-at-requires
-    at-most-eight-requires
+    at-most-requires
     unheard-requires
     loop-holds
     heard-at-requires

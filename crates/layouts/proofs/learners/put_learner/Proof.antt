@@ -13,8 +13,8 @@ put-flag-requires c κs = search needs
 put-set-requires : tie.Need-put-set-requires
 put-set-requires c κs = search needs
 
-at-most-eight-requires : tie.Need-at-most-eight-requires
-at-most-eight-requires c κs = search needs
+at-most-requires : tie.Need-at-most-requires
+at-most-requires c κs = search needs
 
 put-places-requires : tie.Need-put-places-requires
 put-places-requires c κs = search needs
@@ -26,7 +26,7 @@ returns : tie.Need-returns
 returns c =
     let a = c .before .before .before .before .before .before .before .before .before .before .before .before .before .before .args in
     let eight : length (a .l .heard) ≡ 8 = eight-places (a .l) _ (c .before .before .before .before .before .before .before .before .before .before .before .before .before .before .good .1 .0) in
-    let own = ap (λ (n : ℕ). take n (a .l .heard)) (c .before .before .before .at-most-eight .ensures) ∙ take-eight (a .proposers) (a .l .heard) eight in
+    let own = ap (λ (n : ℕ). take n (a .l .heard)) (c .before .before .before .at-most .ensures) ∙ take-eight (a .proposers) (a .l .heard) eight in
     put-learner-parts
     (a .kept .now)
     (a .proposers)
@@ -42,7 +42,7 @@ put-learner-spec =
     (tie.spec
     put-flag-requires
     put-set-requires
-    at-most-eight-requires
+    at-most-requires
     put-places-requires
     same-length
     returns)

@@ -1,10 +1,8 @@
-use mathlib.Core.Bool.{true, false}
-use mathlib.Core.Path.{_≡_, ap, _∙_}
 use borrow.Author.Tests.{eq-eqb, ne-eqb}
 use borrow.Author.Needs.{needs}
-use Rattle.sizes.specs.Sizes.{sizesInRange}
-use Rattle.layouts.specs.Layout.{sizesOf, isProposer}
+use Rattle.layouts.specs.Layout.{isProposer}
 use Rattle.layouts.proofs.Parts.{passed, failed}
+use Rattle.layouts.proofs.Wide.{sizes-tested, narrowed-same}
 use Rattle.layouts.proofs.proposers.is_proposer.Statement.{statement}
 use Rattle.layouts.proofs.proposers.is_proposer.Tie as tie
 
@@ -19,7 +17,7 @@ unfolding isProposer
 returns c =
     let s = c .before .before .before .before in
     let z = c .before .before .sizes-of .ensures in
-    let e : sizesInRange (sizesOf 1 (s .args .acceptors) (s .args .scans)) ≡ false = failed (c .before .in-range .ensures ∙ ap sizesInRange z) (c .if1 .taken) in
+    let e = failed (sizes-tested 1 (s .args .acceptors) (s .args .scans) z (c .before .in-range .ensures)) (c .if1 .taken) in
     simp e
 
 returns-2 : tie.Need-returns-2
@@ -28,7 +26,7 @@ returns-2 c =
     let t₁ = c .before in
     let s = t₁ .before .before .before .before in
     let z = t₁ .before .before .sizes-of .ensures in
-    let e : sizesInRange (sizesOf 1 (s .args .acceptors) (s .args .scans)) ≡ true = passed (t₁ .before .in-range .ensures ∙ ap sizesInRange z) (t₁ .if1 .left) in
+    let e = passed (sizes-tested 1 (s .args .acceptors) (s .args .scans) z (t₁ .before .in-range .ensures)) (t₁ .if1 .left) in
     simp (e, ne-eqb _ _ (c .if2 .taken))
 
 is-flag-requires : tie.Need-is-flag-requires
@@ -41,7 +39,7 @@ returns-3 c =
     let t₁ = t₂ .before in
     let s = t₁ .before .before .before .before in
     let z = t₁ .before .before .sizes-of .ensures in
-    let e : sizesInRange (sizesOf 1 (s .args .acceptors) (s .args .scans)) ≡ true = passed (t₁ .before .in-range .ensures ∙ ap sizesInRange z) (t₁ .if1 .left) in
+    let e = passed (sizes-tested 1 (s .args .acceptors) (s .args .scans) z (t₁ .before .in-range .ensures)) (t₁ .if1 .left) in
     simp (e, eq-eqb _ _ (t₂ .if2 .left), failed (c .before .is-flag .ensures) (c .if3 .taken))
 
 is-flag-requires-2 : tie.Need-is-flag-requires-2
@@ -55,7 +53,7 @@ returns-4 c =
     let t₁ = t₂ .before in
     let s = t₁ .before .before .before .before in
     let z = t₁ .before .before .sizes-of .ensures in
-    let e : sizesInRange (sizesOf 1 (s .args .acceptors) (s .args .scans)) ≡ true = passed (t₁ .before .in-range .ensures ∙ ap sizesInRange z) (t₁ .if1 .left) in
+    let e = passed (sizes-tested 1 (s .args .acceptors) (s .args .scans) z (t₁ .before .in-range .ensures)) (t₁ .if1 .left) in
     simp (e, eq-eqb _ _ (t₂ .if2 .left), passed (t₃ .before .is-flag .ensures) (t₃ .if3 .left), failed (c .before .is-flag2 .ensures) (c .if4 .taken))
 
 proposer-at-requires : tie.Need-proposer-at-requires
@@ -73,8 +71,8 @@ returns-5 c =
     let t₁ = t₂ .before in
     let s = t₁ .before .before .before .before in
     let z = t₁ .before .before .sizes-of .ensures in
-    let e : sizesInRange (sizesOf 1 (s .args .acceptors) (s .args .scans)) ≡ true = passed (t₁ .before .in-range .ensures ∙ ap sizesInRange z) (t₁ .if1 .left) in
-    simp (e, eq-eqb _ _ (t₂ .if2 .left), passed (t₃ .before .is-flag .ensures) (t₃ .if3 .left), passed (t₄ .before .is-flag2 .ensures) (t₄ .if4 .left)) (simp (c .in-range2 .ensures, c .before .proposer-at .ensures, z))
+    let e = passed (sizes-tested 1 (s .args .acceptors) (s .args .scans) z (t₁ .before .in-range .ensures)) (t₁ .if1 .left) in
+    simp (e, eq-eqb _ _ (t₂ .if2 .left), passed (t₃ .before .is-flag .ensures) (t₃ .if3 .left), passed (t₄ .before .is-flag2 .ensures) (t₄ .if4 .left)) (simp (c .in-range2 .ensures, c .before .proposer-at .ensures, z, narrowed-same 1 (s .args .acceptors) (s .args .scans) e))
 
 pub is-proposer-spec : {M : Type 1} → statement M
 is-proposer-spec =

@@ -97,16 +97,16 @@ cast-learns c =
     let e = passed {t = isLearner (a .proposers) (a .acceptors) (a .scans) (a .kept .now)} (t₁ .before .is-learner .ensures) (t₁ .if1 .left) in
     omega (arith, t₂ .if2 .left, few-proposers (a .proposers) (a .acceptors) (a .scans) (learner-sizes (a .proposers) (a .acceptors) (a .scans) (a .kept .now) e))
 
-cast-t21 : tie.Need-cast-t21
-cast-t21 c =
+cast-t20 : tie.Need-cast-t20
+cast-t20 c =
     let t₃ = c .before .before .before .before .before .before in
     let t₁ = t₃ .before .before .before in
     let a = t₁ .before .before .before .before .before .args in
     let e = passed {t = isLearner (a .proposers) (a .acceptors) (a .scans) (a .kept .now)} (t₁ .before .is-learner .ensures) (t₁ .if1 .left) in
     omega (arith, answer-acceptor (a .acceptors) (a .acceptor) (a .number) (passed (t₃ .before .is-answer .ensures) (t₃ .if3 .left)), few-acceptors (a .proposers) (a .acceptors) (a .scans) (learner-sizes (a .proposers) (a .acceptors) (a .scans) (a .kept .now) e))
 
-cast-t23 : tie.Need-cast-t23
-cast-t23 c =
+cast-t22 : tie.Need-cast-t22
+cast-t22 c =
     let t₃ = c .before .before .before .before .before .before in
     let a = t₃ .before .before .before .before .before .before .before .before .args in
     omega (arith, answer-number (a .acceptors) (a .acceptor) (a .number) (passed (t₃ .before .is-answer .ensures) (t₃ .if3 .left)))
@@ -114,11 +114,27 @@ cast-t23 c =
 set-at-requires : tie.Need-set-at-requires
 set-at-requires c κs = search needs
 
+cast-learns-2 : tie.Need-cast-learns-2
+cast-learns-2 c =
+    let t₁ = c .before .before .before .before .before .before .before .before .before .before in
+    let a = t₁ .before .before .before .before .before .args in
+    let e = passed {t = isLearner (a .proposers) (a .acceptors) (a .scans) (a .kept .now)} (t₁ .before .is-learner .ensures) (t₁ .if1 .left) in
+    let z = learner-sizes (a .proposers) (a .acceptors) (a .scans) (a .kept .now) e in
+    omega (arith, few-proposers (a .proposers) (a .acceptors) (a .scans) z, few-acceptors (a .proposers) (a .acceptors) (a .scans) z)
+
 learns-requires : tie.Need-learns-requires
 learns-requires c κs = search needs
 
-cast-learns-2 : tie.Need-cast-learns-2
-cast-learns-2 c = search needs
+cast-learns-3 : tie.Need-cast-learns-3
+cast-learns-3 c = search needs
+
+cast-hear : tie.Need-cast-hear
+cast-hear c =
+    let t₁ = c .before .before .before .before .before .before .before .before .before .before .before .before in
+    let a = t₁ .before .before .before .before .before .args in
+    let e = passed {t = isLearner (a .proposers) (a .acceptors) (a .scans) (a .kept .now)} (t₁ .before .is-learner .ensures) (t₁ .if1 .left) in
+    let z = learner-sizes (a .proposers) (a .acceptors) (a .scans) (a .kept .now) e in
+    omega (arith, few-proposers (a .proposers) (a .acceptors) (a .scans) z, few-acceptors (a .proposers) (a .acceptors) (a .scans) z)
 
 hear-requires : tie.Need-hear-requires
 hear-requires c κs = search needs
@@ -167,11 +183,13 @@ ymd-hear-spec =
     same-length-5
     returns-5
     cast-learns
-    cast-t21
-    cast-t23
+    cast-t20
+    cast-t22
     set-at-requires
-    learns-requires
     cast-learns-2
+    learns-requires
+    cast-learns-3
+    cast-hear
     hear-requires
     put-learner-requires
     same-length-6

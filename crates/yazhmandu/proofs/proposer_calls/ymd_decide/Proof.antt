@@ -1,7 +1,8 @@
 use mathlib.Core.Path.{ap, _∙_}
+use native.Mathlib.Omega.{arith}
 use borrow.Author.Needs.{needs}
 use Rattle.model.specs.Rules.{decideNo, deciding, afterDecide}
-use Rattle.layouts.proofs.Parts.{passed, failed}
+use Rattle.layouts.proofs.Parts.{passed, failed, proposer-sizes, few-acceptors, few-scans}
 use Rattle.yazhmandu.proofs.RuleCalls.{call-refused, rule-refused, rule-done}
 use Rattle.yazhmandu.proofs.proposer_calls.ymd_decide.Statement.{statement}
 use Rattle.yazhmandu.proofs.proposer_calls.ymd_decide.Tie as tie
@@ -18,6 +19,12 @@ returns c = call-refused _ _ _ (decideNo _) deciding (failed (c .before .is-prop
 proposer-at-requires : tie.Need-proposer-at-requires
 proposer-at-requires c κs = search needs
 
+cast-decide-no : tie.Need-cast-decide-no
+cast-decide-no c =
+    let t₁ = c .before .before in
+    let e = proposer-sizes _ _ _ (passed (t₁ .before .is-proposer .ensures) (t₁ .if1 .left)) in
+    omega (arith, few-acceptors _ _ _ e, few-scans _ _ _ e)
+
 decide-no-requires : tie.Need-decide-no-requires
 decide-no-requires c κs = search needs
 
@@ -31,6 +38,12 @@ returns-2 c =
     (passed (t₁ .before .is-proposer .ensures) (t₁ .if1 .left))
     (c .before .decide-no .ensures ∙ ap (decideNo _) (c .before .before .proposer-at .ensures))
     (c .if2 .taken)
+
+cast-decide : tie.Need-cast-decide
+cast-decide c =
+    let t₁ = c .before .before .before .before .before in
+    let e = proposer-sizes _ _ _ (passed (t₁ .before .is-proposer .ensures) (t₁ .if1 .left)) in
+    omega (arith, few-acceptors _ _ _ e, few-scans _ _ _ e)
 
 decide-requires : tie.Need-decide-requires
 decide-requires c κs = search needs
@@ -62,9 +75,11 @@ ymd-decide-spec =
     same-length
     returns
     proposer-at-requires
+    cast-decide-no
     decide-no-requires
     same-length-2
     returns-2
+    cast-decide
     decide-requires
     put-proposer-requires
     same-length-3

@@ -1,7 +1,8 @@
 use mathlib.Core.Path.{ap, _∙_}
+use native.Mathlib.Omega.{arith}
 use borrow.Author.Needs.{needs}
 use Rattle.model.specs.Rules.{refineNo, refining, afterRefine}
-use Rattle.layouts.proofs.Parts.{passed, failed}
+use Rattle.layouts.proofs.Parts.{passed, failed, proposer-sizes, few-acceptors, few-scans}
 use Rattle.yazhmandu.proofs.RuleCalls.{call-refused, rule-refused, rule-done}
 use Rattle.yazhmandu.proofs.proposer_calls.ymd_refine.Statement.{statement}
 use Rattle.yazhmandu.proofs.proposer_calls.ymd_refine.Tie as tie
@@ -18,6 +19,12 @@ returns c = call-refused _ _ _ (refineNo _) refining (failed (c .before .is-prop
 proposer-at-requires : tie.Need-proposer-at-requires
 proposer-at-requires c κs = search needs
 
+cast-refine-no : tie.Need-cast-refine-no
+cast-refine-no c =
+    let t₁ = c .before .before in
+    let e = proposer-sizes _ _ _ (passed (t₁ .before .is-proposer .ensures) (t₁ .if1 .left)) in
+    omega (arith, few-acceptors _ _ _ e, few-scans _ _ _ e)
+
 refine-no-requires : tie.Need-refine-no-requires
 refine-no-requires c κs = search needs
 
@@ -31,6 +38,12 @@ returns-2 c =
     (passed (t₁ .before .is-proposer .ensures) (t₁ .if1 .left))
     (c .before .refine-no .ensures ∙ ap (refineNo _) (c .before .before .proposer-at .ensures))
     (c .if2 .taken)
+
+cast-refine : tie.Need-cast-refine
+cast-refine c =
+    let t₁ = c .before .before .before .before .before in
+    let e = proposer-sizes _ _ _ (passed (t₁ .before .is-proposer .ensures) (t₁ .if1 .left)) in
+    omega (arith, few-acceptors _ _ _ e, few-scans _ _ _ e)
 
 refine-requires : tie.Need-refine-requires
 refine-requires c κs = search needs
@@ -62,9 +75,11 @@ ymd-refine-spec =
     same-length
     returns
     proposer-at-requires
+    cast-refine-no
     refine-no-requires
     same-length-2
     returns-2
+    cast-refine
     refine-requires
     put-proposer-requires
     same-length-3

@@ -43,7 +43,7 @@ pub fn where_is(table: &[u8], set: &[u8], tag: u64, found: &mut [u64; 4]) -> Res
 /// The acceptor's rule: whether the proposal's set is acknowledged, and the
 /// set to send.
 pub fn answer_proposal(
-    scans: u16,
+    scans: u64,
     kept: &mut [u8],
     set: &[u8],
     reply: &mut [u8; layout::ACCEPTOR],
@@ -69,7 +69,7 @@ pub struct Acknowledgement<'a> {
 
 /// The learner's rule: whether the learnt set changed, 0 or 1.
 pub fn hear(
-    run: (u16, u16, u16),
+    run: (u64, u64, u64),
     kept: &mut [u8],
     heard: &Acknowledgement,
     learns: &mut u8,
@@ -98,7 +98,7 @@ pub fn hear(
 }
 
 /// The proposer's buffered set gains a set.
-pub fn buffer(acceptors: u16, scans: u16, kept: &mut [u8], set: &[u8]) -> Result<(), Refusal> {
+pub fn buffer(acceptors: u64, scans: u64, kept: &mut [u8], set: &[u8]) -> Result<(), Refusal> {
     let sizes = sizes(1, acceptors, scans);
     let mut proposer = layout::proposer(kept, &sizes)?;
     let set = layout::set(set, sizes.s)?;
@@ -110,8 +110,8 @@ pub fn buffer(acceptors: u16, scans: u16, kept: &mut [u8], set: &[u8]) -> Result
 
 /// The proposer takes an acknowledgement.
 pub fn acknowledged(
-    acceptors: u16,
-    scans: u16,
+    acceptors: u64,
+    scans: u64,
     kept: &mut [u8],
     acceptor: u64,
     number: u64,
@@ -127,8 +127,8 @@ pub fn acknowledged(
 
 /// The proposer takes a rejection.
 pub fn rejected(
-    acceptors: u16,
-    scans: u16,
+    acceptors: u64,
+    scans: u64,
     kept: &mut [u8],
     acceptor: u64,
     number: u64,
@@ -145,7 +145,7 @@ pub fn rejected(
 }
 
 /// Propose.
-pub fn propose(acceptors: u16, scans: u16, kept: &mut [u8]) -> Result<(), Refusal> {
+pub fn propose(acceptors: u64, scans: u64, kept: &mut [u8]) -> Result<(), Refusal> {
     let mut proposer = layout::proposer(kept, &sizes(1, acceptors, scans))?;
     roles::test_propose(&proposer)?;
     roles::propose(&mut proposer);
@@ -154,18 +154,18 @@ pub fn propose(acceptors: u16, scans: u16, kept: &mut [u8]) -> Result<(), Refusa
 }
 
 /// Refine.
-pub fn refine(acceptors: u16, scans: u16, kept: &mut [u8]) -> Result<(), Refusal> {
+pub fn refine(acceptors: u64, scans: u64, kept: &mut [u8]) -> Result<(), Refusal> {
     let mut proposer = layout::proposer(kept, &sizes(1, acceptors, scans))?;
-    roles::test_refine(&proposer, u32::from(acceptors))?;
+    roles::test_refine(&proposer, acceptors as u32)?;
     roles::refine(&mut proposer);
     kept.copy_from_slice(&layout::proposer_bytes(&proposer));
     Ok(())
 }
 
 /// Decide.
-pub fn decide(acceptors: u16, scans: u16, kept: &mut [u8]) -> Result<(), Refusal> {
+pub fn decide(acceptors: u64, scans: u64, kept: &mut [u8]) -> Result<(), Refusal> {
     let mut proposer = layout::proposer(kept, &sizes(1, acceptors, scans))?;
-    roles::test_decide(&proposer, u32::from(acceptors))?;
+    roles::test_decide(&proposer, acceptors as u32)?;
     roles::decide(&mut proposer);
     kept.copy_from_slice(&layout::proposer_bytes(&proposer));
     Ok(())
@@ -196,13 +196,13 @@ pub fn run_text(text: &mut [u8], schedule: &[u8], length: &mut usize) -> Result<
 }
 
 /// The sizes that a call on one record is given; the others are the least.
-fn sizes(proposers: u16, acceptors: u16, scans: u16) -> Sizes {
+fn sizes(proposers: u64, acceptors: u64, scans: u64) -> Sizes {
     Sizes {
-        p: u64::from(proposers),
-        a: u64::from(acceptors),
+        p: proposers,
+        a: acceptors,
         l: 1,
         m: LEAST_M,
-        s: u64::from(scans),
+        s: scans,
     }
 }
 

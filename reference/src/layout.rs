@@ -41,7 +41,8 @@ pub fn word(bytes: &[u8]) -> Option<u64> {
 /// An acceptor's record: refused 1 where a size, the length or a field is
 /// outside its range.
 pub fn acceptor(bytes: &[u8], sizes: &Sizes) -> Result<Acceptor, Refusal> {
-    let mut fields = Fields::of_record(bytes, ACCEPTOR, sizes)?;
+    test_sizes(sizes)?;
+    let mut fields = Fields::of_length(bytes, ACCEPTOR)?;
     let acceptor = Acceptor {
         alive: fields.flag()?,
         accepted: fields.set(),
@@ -53,7 +54,8 @@ pub fn acceptor(bytes: &[u8], sizes: &Sizes) -> Result<Acceptor, Refusal> {
 /// A proposer's record: refused 1 where a size, the length or a field is
 /// outside its range.
 pub fn proposer(bytes: &[u8], sizes: &Sizes) -> Result<Proposer, Refusal> {
-    let mut fields = Fields::of_record(bytes, PROPOSER, sizes)?;
+    test_sizes(sizes)?;
+    let mut fields = Fields::of_length(bytes, PROPOSER)?;
     let proposer = Proposer {
         alive: fields.flag()?,
         active: fields.flag()?,
@@ -77,7 +79,8 @@ pub fn learner_length(p: u64) -> usize {
 /// A learner's record: refused 1 where a size, the length or a field is outside
 /// its range. It has heard nothing of proposers that the run does not have.
 pub fn learner(bytes: &[u8], sizes: &Sizes) -> Result<Learner, Refusal> {
-    let mut fields = Fields::of_record(bytes, learner_length(sizes.p), sizes)?;
+    test_sizes(sizes)?;
+    let mut fields = Fields::of_length(bytes, learner_length(sizes.p))?;
     let mut learner = Learner {
         alive: fields.flag()?,
         learnt: fields.set(),
@@ -151,10 +154,9 @@ fn test_within(within: bool) -> Result<(), Refusal> {
 struct Fields<'a>(&'a [u8]);
 
 impl<'a> Fields<'a> {
-    /// The fields of a record of this length: refused 1 where a size is outside
-    /// its range or the bytes are not that long.
-    fn of_record(bytes: &'a [u8], length: usize, sizes: &Sizes) -> Result<Fields<'a>, Refusal> {
-        test_sizes(sizes)?;
+    /// The fields of a record of this length: refused 1 where the bytes are not
+    /// that long.
+    fn of_length(bytes: &'a [u8], length: usize) -> Result<Fields<'a>, Refusal> {
         test_within(bytes.len() == length)?;
         Ok(Fields(bytes))
     }

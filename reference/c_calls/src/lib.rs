@@ -78,7 +78,7 @@ pub unsafe extern "C" fn second_where_is(
 
 #[no_mangle]
 pub unsafe extern "C" fn second_answer_proposal(
-    scans: u16,
+    scans: u64,
     kept: *mut u8,
     kept_length: usize,
     set: *const u8,
@@ -98,9 +98,9 @@ pub unsafe extern "C" fn second_answer_proposal(
 
 #[no_mangle]
 pub unsafe extern "C" fn second_hear(
-    proposers: u16,
-    acceptors: u16,
-    scans: u16,
+    proposers: u64,
+    acceptors: u64,
+    scans: u64,
     kept: *mut u8,
     kept_length: usize,
     proposer: u64,
@@ -134,8 +134,8 @@ pub unsafe extern "C" fn second_hear(
 
 #[no_mangle]
 pub unsafe extern "C" fn second_buffer(
-    acceptors: u16,
-    scans: u16,
+    acceptors: u64,
+    scans: u64,
     kept: *mut u8,
     kept_length: usize,
     set: *const u8,
@@ -148,8 +148,8 @@ pub unsafe extern "C" fn second_buffer(
 
 #[no_mangle]
 pub unsafe extern "C" fn second_acknowledged(
-    acceptors: u16,
-    scans: u16,
+    acceptors: u64,
+    scans: u64,
     kept: *mut u8,
     kept_length: usize,
     acceptor: u64,
@@ -164,8 +164,8 @@ pub unsafe extern "C" fn second_acknowledged(
 
 #[no_mangle]
 pub unsafe extern "C" fn second_rejected(
-    acceptors: u16,
-    scans: u16,
+    acceptors: u64,
+    scans: u64,
     kept: *mut u8,
     kept_length: usize,
     acceptor: u64,
@@ -182,8 +182,8 @@ pub unsafe extern "C" fn second_rejected(
 
 #[no_mangle]
 pub unsafe extern "C" fn second_propose(
-    acceptors: u16,
-    scans: u16,
+    acceptors: u64,
+    scans: u64,
     kept: *mut u8,
     kept_length: usize,
 ) -> u8 {
@@ -194,8 +194,8 @@ pub unsafe extern "C" fn second_propose(
 
 #[no_mangle]
 pub unsafe extern "C" fn second_refine(
-    acceptors: u16,
-    scans: u16,
+    acceptors: u64,
+    scans: u64,
     kept: *mut u8,
     kept_length: usize,
 ) -> u8 {
@@ -206,8 +206,8 @@ pub unsafe extern "C" fn second_refine(
 
 #[no_mangle]
 pub unsafe extern "C" fn second_decide(
-    acceptors: u16,
-    scans: u16,
+    acceptors: u64,
+    scans: u64,
     kept: *mut u8,
     kept_length: usize,
 ) -> u8 {

@@ -61,7 +61,7 @@ fn an_acceptor_answers() {
 #[test]
 fn an_acceptor_is_tested_1_then_3_then_5() {
     let mut reply = [7; 9];
-    let cases: [(u16, &[u8], &[u8], Refusal); 10] = [
+    let cases: [(u64, &[u8], &[u8], Refusal); 10] = [
         (0, &[0; 9], &[9; 8], 1),
         (65, &[0; 9], &[9; 8], 1),
         (3, &[2, 0, 0, 0, 0, 0, 0, 0, 0], &[9; 8], 1),
@@ -166,6 +166,46 @@ fn a_learner_is_tested_1_then_3_then_5() {
     assert_eq!(refused(run, good), Err(5));
 }
 
+/// Sizes that end in the bits of one in range, and the greatest.
+const WIDE: [u64; 4] = [65_600, 65_536 + 3, (1 << 32) + 64, u64::MAX];
+
+#[test]
+fn a_size_of_more_than_16_bits_is_refused_1() {
+    let set = set_of(&[0]);
+    let mut learner = [0; 42];
+    learner[0] = 1;
+    let heard = Acknowledgement {
+        proposer: 2,
+        acceptor: 2,
+        number: 1,
+        set: &set,
+    };
+    for wide in WIDE {
+        let mut kept = ALIVE;
+        let mut reply = [7; 9];
+        let answer = answer_proposal(wide, &mut kept, &set, &mut reply);
+        assert_eq!((answer, kept, reply), (Err(1), ALIVE, [7; 9]));
+        for run in [(wide, 3, 3), (3, wide, 3), (3, 3, wide)] {
+            let mut kept = learner;
+            let mut learns = 7;
+            let answer = hear(run, &mut kept, &heard, &mut learns);
+            assert_eq!((answer, kept, learns), (Err(1), learner, 7));
+        }
+        for (a, s) in [(wide, 3), (3, wide)] {
+            let mut kept = [0; 38];
+            kept[0] = 1;
+            let before = kept;
+            assert_eq!(buffer(a, s, &mut kept, &set), Err(1));
+            assert_eq!(acknowledged(a, s, &mut kept, 2, 1), Err(1));
+            assert_eq!(rejected(a, s, &mut kept, 2, 1, &set), Err(1));
+            assert_eq!(propose(a, s, &mut kept), Err(1));
+            assert_eq!(refine(a, s, &mut kept), Err(1));
+            assert_eq!(decide(a, s, &mut kept), Err(1));
+            assert_eq!(kept, before);
+        }
+    }
+}
+
 #[test]
 fn the_text_needs_its_whole_length() {
     let schedule = [1, 1, 1, 16, 1, 0];
@@ -261,7 +301,7 @@ fn proposers_do_as_in_the_step_machine() {
     let rng = &mut Rng::new(21);
     for _ in 0..DRAWN {
         let sizes = random_sizes(rng);
-        let (a, s) = (sizes.a as u16, sizes.s as u16);
+        let (a, s) = (sizes.a, sizes.s);
         let before = random_proposer(rng, &sizes);
         let acceptor = rng.below(sizes.a);
         let number = match rng.one_in(2) {
@@ -324,7 +364,7 @@ fn acceptors_do_as_in_the_step_machine() {
         let mut run = Run::fresh(&sizes);
         run.records.acceptors[0] = before;
         let bytes = layout::set_bytes(set);
-        let called = answer_proposal(sizes.s as u16, &mut kept, &bytes, &mut reply);
+        let called = answer_proposal(sizes.s, &mut kept, &bytes, &mut reply);
         let stepped = run.deliver(Message {
             kind: machine::PROPOSAL,
             number: 1,
@@ -378,7 +418,7 @@ fn learners_do_as_in_the_step_machine() {
             number,
             set: &layout::set_bytes(set),
         };
-        let parties = (sizes.p as u16, sizes.a as u16, sizes.s as u16);
+        let parties = (sizes.p, sizes.a, sizes.s);
         let called = hear(parties, &mut kept, &heard, &mut learns);
         let stepped = run.deliver(Message {
             kind: machine::ACKNOWLEDGEMENT_TO_LEARNER,

@@ -51,13 +51,13 @@ fn clock() -> (String, Measured) {
 
 /// The second program's acceptor, as a call.
 #[inline(never)]
-fn second_answer(scans: u16, record: &mut [u8], set: &[u8; 8], reply: &mut [u8; 9]) -> u8 {
+fn second_answer(scans: u64, record: &mut [u8], set: &[u8; 8], reply: &mut [u8; 9]) -> u8 {
     number_of(second::answer_proposal(scans, record, set, reply))
 }
 
 /// Proposals to one acceptor, some acknowledged and some rejected.
 fn answer_proposal() -> (String, Measured) {
-    let proposals = |call: fn(u16, &mut [u8], &[u8; 8], &mut [u8; 9]) -> u8| {
+    let proposals = |call: fn(u64, &mut [u8], &[u8; 8], &mut [u8; 9]) -> u8| {
         let mut record = [1, 0, 0, 0, 0, 0, 0, 0, 0];
         let mut reply = [0; 9];
         let mut sum: u64 = 0;
@@ -77,12 +77,12 @@ fn answer_proposal() -> (String, Measured) {
 
 /// A learner's call: P, A, S; its record; proposer, acceptor, number; the set;
 /// whether it learns.
-type Hear = fn([u16; 3], &mut [u8], [u64; 3], &[u8; 8], &mut u8) -> u8;
+type Hear = fn([u64; 3], &mut [u8], [u64; 3], &[u8; 8], &mut u8) -> u8;
 
 /// The second program's learner, as a call.
 #[inline(never)]
 fn second_hear(
-    [p, a, s]: [u16; 3],
+    [p, a, s]: [u64; 3],
     record: &mut [u8],
     [proposer, acceptor, number]: [u64; 3],
     set: &[u8; 8],

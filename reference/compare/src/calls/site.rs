@@ -13,7 +13,7 @@ mod c {
             found: *mut u64,
         ) -> u8;
         pub fn ymd_answer_proposal(
-            scans: u16,
+            scans: u64,
             record: *mut u8,
             record_length: usize,
             set: *const u8,
@@ -21,9 +21,9 @@ mod c {
             reply: *mut u8,
         ) -> u8;
         pub fn ymd_hear(
-            proposers: u16,
-            acceptors: u16,
-            scans: u16,
+            proposers: u64,
+            acceptors: u64,
+            scans: u64,
             record: *mut u8,
             record_length: usize,
             proposer: u64,
@@ -59,7 +59,7 @@ pub fn where_is(table: &[u8], set: &[u8; 8], tag: u64, found: &mut [u64; 4]) -> 
 }
 
 /// The acceptor's rule on its record.
-pub fn answer_proposal(scans: u16, record: &mut [u8], set: &[u8; 8], reply: &mut [u8; 9]) -> u8 {
+pub fn answer_proposal(scans: u64, record: &mut [u8], set: &[u8; 8], reply: &mut [u8; 9]) -> u8 {
     // SAFETY: the call reads and writes as many bytes from each pointer as its
     // length says at most, and writes the nine; all are borrowed for the call.
     unsafe {
@@ -77,7 +77,7 @@ pub fn answer_proposal(scans: u16, record: &mut [u8], set: &[u8; 8], reply: &mut
 /// The learner's rule on its record; the run is P, A, S, the acknowledgement
 /// proposer, acceptor, number.
 pub fn hear(
-    run: [u16; 3],
+    run: [u64; 3],
     record: &mut [u8],
     acknowledgement: [u64; 3],
     set: &[u8; 8],

@@ -60,7 +60,9 @@ extern "C" {
 
 /* ---- Limits ------------------------------------------------------------- */
 
-/* Sizes of a run: from 1 to these; slots from YMD_LEAST_SLOTS. */
+/* Sizes of a run: from 1 to these; slots from YMD_LEAST_SLOTS. A call takes
+   those that its rule looks at as numbers of 64 bits, in this order: P, the
+   proposers, A, the acceptors, and S, the scans. */
 #define YMD_MOST_PROPOSERS 8
 #define YMD_MOST_ACCEPTORS 7
 #define YMD_MOST_LEARNERS 8
@@ -213,7 +215,7 @@ uint8_t ymd_where_is(const uint8_t *table, size_t table_length,
  * Refuses: 1 for S or the record; then 3 for a set that is not 8 bytes or not
  * within S; then 5.
  */
-uint8_t ymd_answer_proposal(uint16_t scans, uint8_t *record,
+uint8_t ymd_answer_proposal(uint64_t scans, uint8_t *record,
                             size_t record_length, const uint8_t *set,
                             size_t set_length, uint8_t reply[YMD_REPLY_BYTES]);
 
@@ -227,7 +229,7 @@ uint8_t ymd_answer_proposal(uint16_t scans, uint8_t *record,
  * acceptor not below A, a number that is not 1 to 1,000, or a set that is not 8
  * bytes or not within S; then 5.
  */
-uint8_t ymd_hear(uint16_t proposers, uint16_t acceptors, uint16_t scans,
+uint8_t ymd_hear(uint64_t proposers, uint64_t acceptors, uint64_t scans,
                  uint8_t *record, size_t record_length, uint64_t proposer,
                  uint64_t acceptor, uint64_t number, const uint8_t *set,
                  size_t set_length, uint8_t *learns);
@@ -245,7 +247,7 @@ uint8_t ymd_hear(uint16_t proposers, uint16_t acceptors, uint16_t scans,
  * message's. To buffer again what is proposed already costs a number.
  * Refuses: 1; then 3 for a set that is not 8 bytes or not within S; then 5.
  */
-uint8_t ymd_buffer(uint16_t acceptors, uint16_t scans, uint8_t *record,
+uint8_t ymd_buffer(uint64_t acceptors, uint64_t scans, uint8_t *record,
                    size_t record_length, const uint8_t *set, size_t set_length);
 
 /*
@@ -255,7 +257,7 @@ uint8_t ymd_buffer(uint16_t acceptors, uint16_t scans, uint8_t *record,
  * Refuses: 1; then 5; then 6 where the proposer is active or buffered is empty;
  * then 7.
  */
-uint8_t ymd_propose(uint16_t acceptors, uint16_t scans, uint8_t *record,
+uint8_t ymd_propose(uint64_t acceptors, uint64_t scans, uint8_t *record,
                     size_t record_length);
 
 /*
@@ -264,7 +266,7 @@ uint8_t ymd_propose(uint16_t acceptors, uint16_t scans, uint8_t *record,
  * Refuses: 1; then 3 for an acceptor not below A or a number that is not 1 to
  * 1,000; then 5.
  */
-uint8_t ymd_acknowledged(uint16_t acceptors, uint16_t scans, uint8_t *record,
+uint8_t ymd_acknowledged(uint64_t acceptors, uint64_t scans, uint8_t *record,
                          size_t record_length, uint64_t acceptor,
                          uint64_t number);
 
@@ -274,7 +276,7 @@ uint8_t ymd_acknowledged(uint16_t acceptors, uint16_t scans, uint8_t *record,
  * Refuses: 1; then 3 for an acceptor not below A, a number that is not 1 to
  * 1,000, or a set that is not 8 bytes or not within S; then 5.
  */
-uint8_t ymd_rejected(uint16_t acceptors, uint16_t scans, uint8_t *record,
+uint8_t ymd_rejected(uint64_t acceptors, uint64_t scans, uint8_t *record,
                      size_t record_length, uint64_t acceptor, uint64_t number,
                      const uint8_t *set, size_t set_length);
 
@@ -285,7 +287,7 @@ uint8_t ymd_rejected(uint16_t acceptors, uint16_t scans, uint8_t *record,
  * and those that acknowledged or rejected, each counted once, are a majority;
  * then 7.
  */
-uint8_t ymd_refine(uint16_t acceptors, uint16_t scans, uint8_t *record,
+uint8_t ymd_refine(uint64_t acceptors, uint64_t scans, uint8_t *record,
                    size_t record_length);
 
 /*
@@ -293,7 +295,7 @@ uint8_t ymd_refine(uint16_t acceptors, uint16_t scans, uint8_t *record,
  * Refuses: 1; then 5; then 6 unless it is active and the acceptors that
  * acknowledged are a majority.
  */
-uint8_t ymd_decide(uint16_t acceptors, uint16_t scans, uint8_t *record,
+uint8_t ymd_decide(uint64_t acceptors, uint64_t scans, uint8_t *record,
                    size_t record_length);
 
 /* ---- Written forms and whole runs ---------------------------------------- */

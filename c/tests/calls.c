@@ -94,7 +94,7 @@ static uint8_t ask_where_is(const uint8_t *table, size_t table_length,
     return answer;
 }
 
-static uint8_t ask_answer_proposal(uint16_t scans, uint8_t *record,
+static uint8_t ask_answer_proposal(uint64_t scans, uint8_t *record,
                                    size_t length, const uint8_t *set,
                                    size_t set_length,
                                    uint8_t reply[YMD_REPLY_BYTES])
@@ -111,7 +111,7 @@ static uint8_t ask_answer_proposal(uint16_t scans, uint8_t *record,
 
 /* The sizes of a run: P, A and S. */
 struct sizes {
-    uint16_t proposers, acceptors, scans;
+    uint64_t proposers, acceptors, scans;
 };
 
 /* An acknowledgement as a learner hears it. */
@@ -137,7 +137,7 @@ static uint8_t ask_hear(struct sizes z, uint8_t *record, size_t length,
 
 /* A call on a proposer's record; an acceptor, a number and a set where it
    takes them. */
-static uint8_t ask_proposer(enum call call, uint16_t acceptors, uint16_t scans,
+static uint8_t ask_proposer(enum call call, uint64_t acceptors, uint64_t scans,
                             uint8_t *record, size_t length, uint64_t acceptor,
                             uint64_t number, const uint8_t *set,
                             size_t set_length)
@@ -364,7 +364,7 @@ static void acceptor_takes_scan_63(void)
     CHECK(memcmp(reply, (uint8_t[9]){0, 0xff, 0, 0, 0, 0, 0, 0, 0x80}, 9) == 0);
 }
 
-static uint8_t acceptor_refusal(uint16_t scans, const uint8_t *kept,
+static uint8_t acceptor_refusal(uint64_t scans, const uint8_t *kept,
                                 size_t length, const uint8_t *set,
                                 size_t set_length)
 {
@@ -385,7 +385,7 @@ static void acceptor_refuses_1_then_3_then_5(void)
     static const uint8_t flag_2[9] = {2}, flag_255[9] = {255};
     static const uint8_t outside[9] = {1, 8}, crashed_outside[9] = {0, 8};
     static const uint8_t good_set[16] = {7}, bad_set[8] = {8};
-    static const uint16_t sizes[] = {0, 65, 66, 255, 256, 259, 320, 65535};
+    static const uint64_t sizes[] = {0, 65, 66, 255, 256, 259, 320, 65535};
     for (size_t i = 0; i < sizeof sizes / sizeof *sizes; i++) {
         CHECK(acceptor_refusal(sizes[i], alive, 9, good_set, 8) == 1);
         CHECK(acceptor_refusal(sizes[i], crashed, 9, bad_set, 8) == 1);
@@ -633,11 +633,11 @@ static void proposer_proposes_refines_and_decides(void)
 static void majorities(void)
 {
     static const struct {
-        uint16_t acceptors;
+        uint64_t acceptors;
         int majority;
     } cases[] = {{1, 1}, {2, 2}, {3, 2}, {4, 3}, {5, 3}, {6, 4}, {7, 4}};
     for (size_t i = 0; i < sizeof cases / sizeof *cases; i++)
-        for (int count = 0; count <= cases[i].acceptors; count++) {
+        for (int count = 0; count <= (int)cases[i].acceptors; count++) {
             uint8_t record[YMD_PROPOSER_BYTES] = {1, 1};
             bool enough = count >= cases[i].majority;
             record[YMD_PROPOSER_NUMBER] = 1;
@@ -742,6 +742,62 @@ static void proposer_refuses_3_then_5(void)
         }
     for (size_t c = 0; c < sizeof proposer_calls / sizeof *proposer_calls; c++)
         CHECK(on_proposer(proposer_calls[c], crashed, 2, 1, 7) == 5);
+}
+
+/* ---- Sizes of more than 16 bits ---- */
+
+/* Sizes that end in the bits of one in range, and the greatest. */
+static const uint64_t wide_sizes[] = {65600, 65536 + 3,
+                                      (UINT64_C(1) << 32) + 64, UINT64_MAX};
+
+/* A wide size in the place of each of the question's sizes is refused 1; the
+   question itself is answered. */
+static void refuses_wide_sizes(enum call call, int sizes)
+{
+    for (int size = 0; size < sizes; size++)
+        for (size_t i = 0; i < sizeof wide_sizes / sizeof *wide_sizes; i++) {
+            uint64_t own = asked.numbers[size];
+            asked.numbers[size] = wide_sizes[i];
+            CHECK(answer_to(call) == YMD_OUTSIDE_RANGE);
+            asked.numbers[size] = own;
+        }
+    CHECK(answer_to(call) == YMD_OK);
+}
+
+/* A run of three proposers, three acceptors and three scans. */
+static void wide_sizes_are_refused_1(void)
+{
+    static const uint64_t heard[] = {3, 3, 3, 2, 2, 1},
+                          answered[] = {3, 3, 2, 1};
+    static const uint8_t acceptor[YMD_ACCEPTOR_BYTES] = {1};
+    static const uint8_t learner[YMD_LEARNER_BYTES(3)] = {1};
+    static const uint8_t set[YMD_SET_BYTES] = {7}, reply[YMD_REPLY_BYTES] = {7};
+    uint8_t proposer[YMD_PROPOSER_BYTES] = {1};
+    lend_bytes(1, set, sizeof set);
+
+    asked.numbers[0] = 3;
+    lend_bytes(0, acceptor, sizeof acceptor);
+    lend_bytes(2, reply, sizeof reply);
+    refuses_wide_sizes(ANSWER_PROPOSAL, 1);
+
+    memcpy(asked.numbers, heard, sizeof heard);
+    lend_bytes(0, learner, sizeof learner);
+    lend_bytes(2, reply, 1);
+    refuses_wide_sizes(HEAR, 3);
+
+    /* passive with a scan buffered, or active and answered by a majority */
+    proposer[YMD_PROPOSER_BUFFERED] = 1;
+    proposer[YMD_PROPOSER_NUMBER] = 1;
+    proposer[YMD_PROPOSER_ACKNOWLEDGED] = 3;
+    proposer[YMD_PROPOSER_REJECTED] = 3;
+    for (size_t c = 0; c < sizeof proposer_calls / sizeof *proposer_calls;
+         c++) {
+        enum call call = proposer_calls[c];
+        proposer[YMD_PROPOSER_ACTIVE] = call != PROPOSE;
+        memcpy(asked.numbers, answered, sizeof answered);
+        lend_bytes(0, proposer, sizeof proposer);
+        refuses_wide_sizes(call, 2);
+    }
 }
 
 /* ---- Written forms ---- */
@@ -956,6 +1012,7 @@ static const struct {
     TEST(proposer_refuses_7_after_6),
     TEST(proposer_refuses_1_first),
     TEST(proposer_refuses_3_then_5),
+    TEST(wide_sizes_are_refused_1),
     TEST(table_verdicts),
     TEST(schedule_verdicts),
     TEST(texts_of_runs),

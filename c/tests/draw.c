@@ -53,7 +53,9 @@ static uint64_t within(struct rng *rng, uint64_t least, uint64_t most)
 
 /* ---- sizes, sets, numbers ---- */
 
-static const uint16_t odd_sizes[] = {0, 9, 8, 65, 66, 255, 256, 257, 65535};
+static const uint64_t odd_sizes[] = {
+    0, 9, 8, 65, 66, 255, 256, 257, 65535, 65536, UINT32_MAX, UINT64_MAX,
+};
 
 /* A size, sometimes another one than `good`, which may be outside its range. */
 static uint64_t draw_size(struct rng *rng, uint64_t good, uint64_t most)
@@ -64,7 +66,8 @@ static uint64_t draw_size(struct rng *rng, uint64_t good, uint64_t most)
     case 0:
         return within(rng, 0, most + 1);
     case 1:
-        return good + (below(rng, 255) << 8);
+        /* one that ends in the bits of the good one */
+        return good + (within(rng, 1, 255) << 8 * within(rng, 1, 7));
     default:
         return odd_sizes[below(rng, sizeof odd_sizes / sizeof *odd_sizes)];
     }

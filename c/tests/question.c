@@ -49,19 +49,19 @@ struct program {
     uint8_t (*clock)(uint32_t, uint32_t, uint64_t, uint64_t *);
     uint8_t (*where_is)(const uint8_t *, size_t, const uint8_t *, size_t,
                         uint64_t, uint64_t *);
-    uint8_t (*answer_proposal)(uint16_t, uint8_t *, size_t, const uint8_t *,
+    uint8_t (*answer_proposal)(uint64_t, uint8_t *, size_t, const uint8_t *,
                                size_t, uint8_t *);
-    uint8_t (*hear)(uint16_t, uint16_t, uint16_t, uint8_t *, size_t, uint64_t,
+    uint8_t (*hear)(uint64_t, uint64_t, uint64_t, uint8_t *, size_t, uint64_t,
                     uint64_t, uint64_t, const uint8_t *, size_t, uint8_t *);
-    uint8_t (*buffer)(uint16_t, uint16_t, uint8_t *, size_t, const uint8_t *,
+    uint8_t (*buffer)(uint64_t, uint64_t, uint8_t *, size_t, const uint8_t *,
                       size_t);
-    uint8_t (*propose)(uint16_t, uint16_t, uint8_t *, size_t);
-    uint8_t (*acknowledged)(uint16_t, uint16_t, uint8_t *, size_t, uint64_t,
+    uint8_t (*propose)(uint64_t, uint64_t, uint8_t *, size_t);
+    uint8_t (*acknowledged)(uint64_t, uint64_t, uint8_t *, size_t, uint64_t,
                             uint64_t);
-    uint8_t (*rejected)(uint16_t, uint16_t, uint8_t *, size_t, uint64_t,
+    uint8_t (*rejected)(uint64_t, uint64_t, uint8_t *, size_t, uint64_t,
                         uint64_t, const uint8_t *, size_t);
-    uint8_t (*refine)(uint16_t, uint16_t, uint8_t *, size_t);
-    uint8_t (*decide)(uint16_t, uint16_t, uint8_t *, size_t);
+    uint8_t (*refine)(uint64_t, uint64_t, uint8_t *, size_t);
+    uint8_t (*decide)(uint64_t, uint64_t, uint8_t *, size_t);
     uint8_t (*check_schedule)(const uint8_t *, size_t);
     uint8_t (*check_table)(const uint8_t *, size_t);
     uint8_t (*run_text)(uint8_t *, size_t, const uint8_t *, size_t, size_t *);
@@ -224,7 +224,6 @@ static bool guarded(const struct lent *lent)
 static uint8_t make_call(const struct program *p, enum call call,
                          const uint64_t *n, const struct lent *m)
 {
-    uint16_t first = (uint16_t)n[0], next = (uint16_t)n[1];
     switch (call) {
     case CLOCK:
         return p->clock((uint32_t)n[0], (uint32_t)n[1], n[2],
@@ -233,26 +232,25 @@ static uint8_t make_call(const struct program *p, enum call call,
         return p->where_is(m[0].bytes, m[0].length, m[1].bytes, m[1].length,
                            n[0], (uint64_t *)(void *)m[2].bytes);
     case ANSWER_PROPOSAL:
-        return p->answer_proposal(first, m[0].bytes, m[0].length, m[1].bytes,
+        return p->answer_proposal(n[0], m[0].bytes, m[0].length, m[1].bytes,
                                   m[1].length, m[2].bytes);
     case HEAR:
-        return p->hear(first, next, (uint16_t)n[2], m[0].bytes, m[0].length,
-                       n[3], n[4], n[5], m[1].bytes, m[1].length, m[2].bytes);
+        return p->hear(n[0], n[1], n[2], m[0].bytes, m[0].length, n[3], n[4],
+                       n[5], m[1].bytes, m[1].length, m[2].bytes);
     case BUFFER:
-        return p->buffer(first, next, m[0].bytes, m[0].length, m[1].bytes,
+        return p->buffer(n[0], n[1], m[0].bytes, m[0].length, m[1].bytes,
                          m[1].length);
     case PROPOSE:
-        return p->propose(first, next, m[0].bytes, m[0].length);
+        return p->propose(n[0], n[1], m[0].bytes, m[0].length);
     case ACKNOWLEDGED:
-        return p->acknowledged(first, next, m[0].bytes, m[0].length, n[2],
-                               n[3]);
+        return p->acknowledged(n[0], n[1], m[0].bytes, m[0].length, n[2], n[3]);
     case REJECTED:
-        return p->rejected(first, next, m[0].bytes, m[0].length, n[2], n[3],
+        return p->rejected(n[0], n[1], m[0].bytes, m[0].length, n[2], n[3],
                            m[1].bytes, m[1].length);
     case REFINE:
-        return p->refine(first, next, m[0].bytes, m[0].length);
+        return p->refine(n[0], n[1], m[0].bytes, m[0].length);
     case DECIDE:
-        return p->decide(first, next, m[0].bytes, m[0].length);
+        return p->decide(n[0], n[1], m[0].bytes, m[0].length);
     case CHECK_SCHEDULE:
         return p->check_schedule(m[0].bytes, m[0].length);
     case CHECK_TABLE:

@@ -4,3 +4,4 @@ pub mod Putting
 pub mod WritesAll
 pub mod Outcomes
 pub mod FormLaws
+pub mod Following

@@ -36,6 +36,12 @@ unfolding prepend
 prepend-prepend us vs (got ws next) = rw append-assoc
 prepend-prepend us vs (refused r) = refl
 
+-- numbers before a piece do not change its refusal
+pub refused-prepend : (vs : List ℕ) (o : Outcome) {r : Refusal} → prepend vs o ≡ refused r → o ≡ refused r
+unfolding prepend
+refused-prepend vs (got ws next) e = absurd (refused-got (sym e))
+refused-prepend vs (refused s) e = e
+
 -- numbers before a piece stand before what follows it too
 pub then-prepend : (vs : List ℕ) (o : Outcome) (f : ℕ → Outcome) → andThen (prepend vs o) f ≡ prepend vs (andThen o f)
 unfolding prepend andThen

@@ -4,3 +4,4 @@ pub mod Forms
 pub mod Writes
 pub mod Reading
 pub mod CodingLaws
+pub mod Following

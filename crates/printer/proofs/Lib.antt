@@ -5,4 +5,5 @@ pub mod Events
 pub mod Longest
 pub mod ReadBack
 pub mod Printing
+pub mod Files
 pub mod Example

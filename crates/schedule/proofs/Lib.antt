@@ -4,3 +4,4 @@ pub mod Parts
 pub mod Valid
 pub mod Answers
 pub mod ScheduleLaws
+pub mod Following

@@ -141,7 +141,7 @@ unfolding form
 form-two v h = form-short 1 10 v (omega arith)
 
 -- the six numbers of a right header take at most 8 bytes
-header-bytes : (h : Header) → Right h → length (forms (numbersOf h)) ≤ 8
+pub header-bytes : (h : Header) → Right h → length (forms (numbersOf h)) ≤ 8
 unfolding forms numbersOf
 header-bytes h r =
     let z = h .sizes in
@@ -238,7 +238,8 @@ longest-stands = longest-of 12_288 refl
 
 -- ---- refusals
 
-refused-no : {n : ℕ} {r : Refusal} → refusedWith n ≡ refused r → r .no ≡ n
+-- a refusal by its number
+pub refused-no : {n : ℕ} {r : Refusal} → refusedWith n ≡ refused r → r .no ≡ n
 refused-no {n} {r} e = let p : record { no = n } ≡ r = cc in sym (ap (λ (s : Refusal). s .no) p)
 
 -- the refusals of the form

@@ -16,9 +16,9 @@ use Rattle.numbers.specs.declared.Read.{Read}
 use Rattle.numbers.specs.declared.Read.the-variants as read
 use Rattle.numbers.proofs.CodingLaws.{refusals}
 use Rattle.numbers.proofs.Forms.{form-in-most}
-use Rattle.forms.specs.Forms.{Outcome, got, refused, Test, testRead, prepend, andThen, row, untested, plain, numbersAt, forms, rowNo, asRead, allWithin}
+use Rattle.forms.specs.Forms.{got, refused, Test, testRead, andThen, row, untested, plain, numbersAt, forms, rowNo, asRead, allWithin}
 use Rattle.choice.proofs.Tests.{and-l, and-r}
-use Rattle.forms.proofs.Outcomes.{refused-got, cons-row-no, zero-as-read}
+use Rattle.forms.proofs.Outcomes.{refused-got, refused-prepend, cons-row-no, zero-as-read}
 use Rattle.forms.proofs.FormLaws.{Bytes, Run, none, one, row-run, numbers-of-row, row-reads, row-forms, row-within}
 use Rattle.schedule.specs.Schedule.{headerOf, numbersOf}
 use Rattle.schedule.specs.declared.Header.{Header}
@@ -69,12 +69,6 @@ pub plain-reads : (limit : Limit) (vs : List ℕ) → allWithin limit vs ≡ tru
     → plain (length vs) limit (before ++ (forms vs ++ after)) (length before) ≡ got vs (length before + length (forms vs))
 plain-reads limit vs h before after =
     row-reads (replicate (length vs) untested) limit vs (sym (length-replicate (length vs) untested)) (within-tested limit vs h) before after
-
--- numbers before a piece do not change its refusal
-refused-prepend : (vs : List ℕ) (o : Outcome) {r : Refusal} → prepend vs o ≡ refused r → o ≡ refused r
-unfolding prepend
-refused-prepend vs (got ws next) e = absurd (refused-got (sym e))
-refused-prepend vs (refused s) e = e
 
 -- they are refused with 11 or 12
 pub plain-refusals : (n : ℕ) (limit : Limit) (bytes : List ℕ) (at : ℕ) {r : Refusal} → plain n limit bytes at ≡ refused r → (r .no ≡ 11) ⊎ (r .no ≡ 12)

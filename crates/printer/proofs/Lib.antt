@@ -6,4 +6,5 @@ pub mod Longest
 pub mod ReadBack
 pub mod Printing
 pub mod Files
+pub mod Telling
 pub mod Example

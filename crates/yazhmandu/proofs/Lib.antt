@@ -2,3 +2,4 @@
 pub mod Verdicts
 pub mod RuleCalls
 pub mod RecordsKept
+pub mod Asking

@@ -50,6 +50,11 @@ unfolding row
 place-none bytes (place.Next at) = refl
 place-none bytes (place.Refused r) = refl
 
+-- the same, a step of the reader at a time
+pub row-step : (test : Test) (tests : List Test) (bytes : List ℕ) (p : Place) {x : Read} {v n : ℕ} {q : Place}
+    → x ≡ readFrom bytes p → v ≡ valueOf x → n ≡ test v → q ≡ testedWith x n → placeRow (test ∷ tests) bytes p ≡ placeRow tests bytes q
+row-step test tests bytes p e f g h = cc (place-row test tests bytes p)
+
 -- ---- the scans
 
 -- where a piece ends, the rest starts

@@ -112,6 +112,11 @@ table-numbers bytes b e =
     let p : length (form (t .scans)) ≡ t .mid = omega (arith, read-form Table bytes 0 (t .scans) (t .mid) b (t .size) .place) in
     rw (t .all, ← n, p) (numbers-of-rows (t .scans) scanTests Table bytes (t .mid) (t .body))
 
+-- the room after as many numbers as the size says were taken from after it
+pub table-taken : (bytes room : List ℕ) {vs e : List ℕ} {next n w : ℕ} → Bytes bytes → readTable bytes ≡ got vs next → n ≡ getD vs 0 0 → w ≡ length (form n)
+    → e ≡ sets room 0 (numbersAt (n * 4) Table bytes w) → e ≡ sets room 0 (drop 1 vs)
+table-taken bytes room b q k l t = t ∙ rw (l, k, table-numbers bytes b q)
+
 -- ---- what reading into room answers
 
 -- reading the outcome into room answers w and leaves the room e

@@ -15,9 +15,16 @@ use Rattle.sizes.specs.Sizes.{scansInRange}
 use Rattle.numbers.specs.Coding.{mostOf}
 use Rattle.numbers.specs.declared.Limit.the-variants.{Table}
 use Rattle.forms.specs.Forms.{Test, rowNo, rowsNo, asRead}
+use Rattle.scan_table.specs.declared.Scan.{Scan}
 use Rattle.scan_table.specs.Table.{fieldsOf, scanAt, scansIn, wholeTable, tableNo, testsOf}
 
 -- ---- one scan
+
+-- a scan is its four numbers
+pub scan-of : (fields : List ℕ) (i : ℕ) {t s d m : ℕ} → t ≡ getD fields (i * 4) 0 → s ≡ getD fields (i * 4 + 1) 0 → d ≡ getD fields (i * 4 + 2) 0 → m ≡ getD fields (i * 4 + 3) 0
+    → _≡_ {A = Scan} (record { tag = t; shelf = s; device = d; time = m }) (scanAt fields i)
+unfolding scanAt
+scan-of fields i e f g h = cc
 
 -- a refusal stands, whatever comes after it
 pub stands : (n rest : ℕ) → (n ≡ 0 → ⊥) → (refusal n ⨾ rest) ≡ n
@@ -42,6 +49,15 @@ as-read test v = go (leb v (mostOf Table))
     go : (t : Bool) → (12 unless t ⨾ test v) ≡ (refusal (12 unless t ⨾ ok) ⨾ test v)
     go true = refl
     go false = refl
+
+-- the same, a step of the code at a time
+pub number-no : (test : Test) (v : ℕ) {k t n : ℕ} → k ≡ (12 unless leb v (mostOf Table) ⨾ ok) → t ≡ test v → n ≡ (refusal k ⨾ t) → n ≡ asRead Table test v
+number-no test v e f g = cc (as-read test v)
+
+-- the first refusal of four numbers, from the last one on
+pub first-of-four : (t u v w : Test) (a b c d : ℕ) {k l m n three two one : ℕ} → k ≡ t a → l ≡ u b → m ≡ v c → n ≡ w d
+    → three ≡ (refusal m ⨾ n) → two ≡ (refusal l ⨾ three) → one ≡ (refusal k ⨾ two) → one ≡ rowNo (t ∷ u ∷ v ∷ w ∷ []) (a ∷ b ∷ c ∷ d ∷ [])
+first-of-four t u v w a b c d e f g h i j k = cc (four-no t u v w a b c d)
 
 -- there are four tests of a scan
 pub four-tests : (written : Bool) → length (testsOf written) ≡ 4

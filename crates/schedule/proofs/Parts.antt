@@ -13,6 +13,7 @@ use Rattle.numbers.specs.Coding.{mostOf}
 use Rattle.numbers.specs.declared.Limit.the-variants as limit
 use Rattle.numbers.specs.declared.Refusal.{Refusal}
 use Rattle.forms.specs.Forms.{Outcome, got, refused, refusedWith, prepend, plain, whole, placeOf, numbersAt}
+use Rattle.forms.specs.declared.Place.{Place}
 use Rattle.forms.specs.declared.Place.the-variants as place
 use Rattle.forms.proofs.FormLaws.{Bytes}
 use Rattle.schedule.specs.Schedule.{headerOf, headerNo, events, readSchedule}
@@ -45,6 +46,11 @@ six-taken bytes room {first} l e =
     let n = plain-numbers 6 limit.Schedule bytes 0 (p .was) in
     let k = plain-count 6 limit.Schedule bytes 0 (p .was) in
     rw (n, sets-whole room (p .vs) (k ∙ sym l)) (p .was)
+
+-- the same, by the place after those that were passed over and by what was taken
+pub six-passed : (bytes room : List ℕ) {p : Place} {six : List ℕ} {first : ℕ} → length room ≡ 6 → p ≡ placeOf (plain 6 limit.Schedule bytes 0) → p ≡ place.Next first
+    → six ≡ sets room 0 (numbersAt 6 limit.Schedule bytes 0) → plain 6 limit.Schedule bytes 0 ≡ got six first
+six-passed bytes room l e f g = rw g (six-taken bytes room l (sym e ∙ f))
 
 -- each of the six is below 65,536
 pub six-small : (bytes : List ℕ) {six : List ℕ} {first : ℕ} → Bytes bytes → plain 6 limit.Schedule bytes 0 ≡ got six first → (k : ℕ) → getD six k 0 < 65536

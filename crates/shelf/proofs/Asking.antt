@@ -33,6 +33,12 @@ pub newest-next : (fields : List ℕ) (set : Scans) (tag i : ℕ) {found : Newes
 unfolding newest
 newest-next fields set tag i e = rw (add-one i) e
 
+-- the same, by what was found before it
+pub newest-considered : (fields : List ℕ) (set : Scans) (tag i : ℕ) {before after found : Newest} → before ≡ newest i fields set tag
+    → after ≡ (if isCandidate (seenAt fields i) set tag then better before (seenAt fields i) else before) → found ≡ after
+    → found ≡ newest (i + 1) fields set tag
+newest-considered fields set tag i b e f = newest-next fields set tag i (f ∙ e ∙ rw b)
+
 -- a scan of another tag is passed over
 pub newest-other : (fields : List ℕ) (set : Scans) (tag i : ℕ) {found : Newest} → found ≡ newest i fields set tag → (scanAt fields i .tag ≡ tag → ⊥)
     → found ≡ newest (i + 1) fields set tag

@@ -1,8 +1,9 @@
 -- `scan_table::check_scan` meets its contract: one number after the other. Assumes nothing.
 use mathlib.Core.List.{[], _∷_}
+use mathlib.Core.Path.{sym, _∙_}
 use Rattle.forms.specs.declared.Place.the-variants as place
 use Rattle.scan_table.specs.Table.{tagNo, shelfNo, deviceNo, timeNo}
-use Rattle.scan_table.proofs.Checking.{place-row, place-none}
+use Rattle.scan_table.proofs.Checking.{row-step, place-none}
 use borrow.Author.Needs.{needs}
 use Rattle.scan_table.proofs.check_scan.Statement.{statement}
 use Rattle.scan_table.proofs.check_scan.Tie as tie
@@ -57,17 +58,17 @@ tested-requires-4 c κs = search needs
 
 returns : tie.Need-returns
 returns c =
-    let a = c .before .before .before .before .before .before .before .before .before .before .before .before .before .before .before .before .before .args in
+    let t₃ = c .before .before .before .before in
+    let t₂ = t₃ .before .before .before .before in
+    let t₁ = t₂ .before .before .before .before in
+    let a = t₁ .before .before .before .before .before .args in
     let b = a .bytes .now in
-    let tag = c .before .before .before .before .before .before .before .before .before .before .before .before .tested .result in
-    let shelf = c .before .before .before .before .before .before .before .before .tested2 .result in
-    let device = c .before .before .before .before .tested3 .result in
-    cc (
-      place-row tagNo (shelfNo ∷ deviceNo ∷ timeNo ∷ []) b (place.Next (a .at)),
-      place-row shelfNo (deviceNo ∷ timeNo ∷ []) b tag,
-      place-row deviceNo (timeNo ∷ []) b shelf,
-      place-row timeNo [] b device,
-      place-none b (c .tested4 .result),
+    sym (
+      row-step tagNo (shelfNo ∷ deviceNo ∷ timeNo ∷ []) b (place.Next (a .at)) (t₁ .before .before .before .read-from .ensures) (t₁ .before .before .value-of .ensures) (t₁ .before .tag-no .ensures) (t₁ .tested .ensures)
+      ∙ row-step shelfNo (deviceNo ∷ timeNo ∷ []) b (t₁ .tested .result) (t₂ .before .before .before .read-from2 .ensures) (t₂ .before .before .value-of2 .ensures) (t₂ .before .shelf-no .ensures) (t₂ .tested2 .ensures)
+      ∙ row-step deviceNo (timeNo ∷ []) b (t₂ .tested2 .result) (t₃ .before .before .before .read-from3 .ensures) (t₃ .before .before .value-of3 .ensures) (t₃ .before .device-no .ensures) (t₃ .tested3 .ensures)
+      ∙ row-step timeNo [] b (t₃ .tested3 .result) (c .before .before .before .read-from4 .ensures) (c .before .before .value-of4 .ensures) (c .before .time-no .ensures) (c .tested4 .ensures)
+      ∙ place-none b (c .tested4 .result)
     )
 
 pub check-scan-spec : {M : Type 1} → statement M

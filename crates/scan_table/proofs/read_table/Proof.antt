@@ -1,13 +1,11 @@
 -- `scan_table::read_table` meets its contract: the whole form is checked, then the room, and then the numbers after the size are taken. Assumes nothing.
-use mathlib.Core.Path.{_≡_, sym, ap, _∙_}
+use mathlib.Core.Path.{sym, ap, _∙_}
 use Prim.Native.Nat.{ℕ}
 use native.Mathlib.Omega.{arith}
-use lib.ListN.{drop}
-use lib.Seq.{sets}
 use Rattle.numbers.proofs.CodingLaws.{Bytes}
 use Rattle.scan_table.specs.declared.TableRead.the-variants as table
 use Rattle.scan_table.specs.Table.{readTable}
-use Rattle.scan_table.proofs.Tables.{checked-got, checked-refused, form-refused, room-short, room-enough, table-numbers}
+use Rattle.scan_table.proofs.Tables.{checked-got, checked-refused, form-refused, room-short, room-enough, table-taken}
 use borrow.Author.Needs.{needs}
 use Rattle.scan_table.proofs.read_table.Statement.{statement}
 use Rattle.scan_table.proofs.read_table.Tie as tie
@@ -45,9 +43,8 @@ returns-2 c =
     let a = c .before .before .before .before .before .before .before .before .before .before .before .before .args in
     let k = checked-got (readTable (a .bytes .now)) (sym (c .before .before .before .before .before .before .before .before .before .check-table .ensures) ∙ c .before .before .before .before .before .before .before .checked .given .1) in
     let b : Bytes (a .bytes .now) = λ (i : ℕ). omega (arith, c .before .before .before .before .before .before .before .before .before .before .shared-slice-known .given i) in
-    let t = table-numbers (a .bytes .now) b (k .was) in
     let w = room-enough (a .room .now) (k .vs) (k .next) (omega (arith, k .scans)) in
-    let l : c .before .before .take-numbers .last .0 ≡ sets (a .room .now) 0 (drop 1 (k .vs)) = cc in
+    let l = table-taken (a .bytes .now) (a .room .now) b (k .was) (k .scans) (c .before .before .before .width .ensures) (c .before .before .take-numbers .ensures) in
     rw (k .was) (ap table.Scans (k .scans) ∙ w .answer, l ∙ w .left)
 
 returns-3 : tie.Need-returns-3

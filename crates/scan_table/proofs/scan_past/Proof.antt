@@ -1,5 +1,5 @@
 -- `scan_table::scan_past` meets its contract. Assumes nothing.
-use Rattle.scan_table.specs.Table.{scanAt}
+use Rattle.scan_table.proofs.Testing.{scan-of}
 use borrow.Author.Needs.{needs}
 use Rattle.scan_table.proofs.scan_past.Statement.{statement}
 use Rattle.scan_table.proofs.scan_past.Tie as tie
@@ -32,8 +32,9 @@ number-at-requires-4 : tie.Need-number-at-requires-4
 number-at-requires-4 c κs = search needs
 
 returns : tie.Need-returns
-unfolding scanAt
-returns c = cc
+returns c =
+    let a = c .before .before .before .before .before .before .args in
+    scan-of (a .fields .now) (a .scan .0) (c .before .before .before .number-at .ensures) (c .before .before .number-at2 .ensures) (c .before .number-at3 .ensures) (c .number-at4 .ensures)
 
 pub scan-past-spec : {M : Type 1} → statement M
 scan-past-spec =

@@ -1,12 +1,13 @@
 -- `scan_table::scans_no` meets its contract. The loop's invariant: the first refusal of the scans that are left is that of all. The measure is
 -- how many are left. Assumes nothing.
-use mathlib.Core.Path.{_≡_, sym, _∙_}
+use mathlib.Core.Path.{_≡_, sym, ap, _∙_}
 use Prim.Native.Nat.{_≤_, _-_, _*_}
 use native.Mathlib.Omega.{arith}
 use native.Mathlib.Nat.{sub-zero}
 use lib.ListN.{drop}
 use Rattle.forms.specs.Forms.{rowNo, rowsNo}
-use Rattle.scan_table.specs.Table.{fieldsOf, scanAt, testsOf}
+use Rattle.scan_table.specs.Table.{fieldsOf, testsOf}
+use Rattle.scan_table.specs.declared.Scan.{Scan}
 use Rattle.scan_table.proofs.Testing.{four-tests, scans-next, scans-refused, scans-none}
 use borrow.Author.Needs.{needs}
 use Rattle.scan_table.proofs.scans_no.Statement.{statement}
@@ -31,7 +32,7 @@ returns : tie.Need-returns Inv-loop μ-loop
 returns c =
     let a = c .before .before .before .before .before .before .args in
     let l = c .before .before .before .before .loop in
-    let e : c .before .tested-no .result ≡ rowNo (testsOf (a .written)) (fieldsOf (scanAt (a .fields .now) (l .i))) = cc in
+    let e = c .before .tested-no .ensures ∙ ap (λ (x : Scan). rowNo (testsOf (a .written)) (fieldsOf x)) (c .before .before .scan-at .ensures) in
     e ∙ sym (l .inv .1 ∙ scans-refused (testsOf (a .written)) (four-tests (a .written)) (a .fields .now) (a .scans) (l .i) (omega arith) (omega arith) (rw e at (c .if1 .taken)))
 
 add-i : tie.Need-add-i Inv-loop μ-loop
@@ -44,7 +45,7 @@ loop-again : tie.Need-loop-again Inv-loop μ-loop
 loop-again c =
     let a = c .before .before .before .before .before .before .args in
     let l = c .before .before .before .before .loop in
-    let e : c .before .tested-no .result ≡ rowNo (testsOf (a .written)) (fieldsOf (scanAt (a .fields .now) (l .i))) = cc in
+    let e = c .before .tested-no .ensures ∙ ap (λ (x : Scan). rowNo (testsOf (a .written)) (fieldsOf x)) (c .before .before .scan-at .ensures) in
     (omega arith, l .inv .1 ∙ scans-next (testsOf (a .written)) (four-tests (a .written)) (a .fields .now) (a .scans) (l .i) (omega arith) (omega arith) (sym e ∙ c .if1 .left))
 
 returns-2 : tie.Need-returns-2 Inv-loop μ-loop

@@ -52,11 +52,14 @@ same-length c = search needs
 
 returns-4 : tie.Need-returns-4
 returns-4 c =
-    let a = c .before .before .before .before .before .before .before .before .before .before .before .before .before .before .before .before .args in
-    let n = c .before .before .before .before .before .before .before .before .before .before .before .width in
-    let f = leb-true (length (forms (a .fields .now))) (length (a .buffer .now) - n .result) (sym (c .before .before .before .before .before .before .before .before .before .fit-in .ensures) ∙ not-false _ (c .before .before .before .before .before .before .before .before .if3 .left)) in
-    let w = wrote-both (a .fields .now) (a .buffer .now) (sym (c .before .before .before .before .before .before .before .before .before .before .before .before .before .table-no .ensures) ∙ c .before .before .before .before .before .before .before .before .before .before .before .before .if1 .left) (omega (arith, n .ensures, form-length (a .fields .now))) in
-    (cc (w .answer), cc (w .buffer))
+    let t = c .before .before .before .before .before .before .before .before in
+    let a = t .before .before .before .before .before .before .before .before .args in
+    let n = t .before .before .before .width in
+    let f = leb-true (length (forms (a .fields .now))) (length (a .buffer .now) - n .result) (sym (t .before .fit-in .ensures) ∙ not-false _ (t .if3 .left)) in
+    let w = wrote-both (a .fields .now) (a .buffer .now) (sym (t .before .before .before .before .before .table-no .ensures) ∙ t .before .before .before .before .if1 .left) (omega (arith, n .ensures, form-length (a .fields .now))) in
+    let one = c .before .before .before .before .before .before .write-number .ensures .1 in
+    let two = c .before .before .write-numbers .ensures in
+    (two .0 ∙ rw (one, n .ensures) (w .answer), two .1 ∙ rw (one, n .ensures) (w .buffer))
 
 pub write-table-spec : {M : Type 1} → statement M
 write-table-spec =

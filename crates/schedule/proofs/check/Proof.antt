@@ -4,10 +4,9 @@ use native.Mathlib.Omega.{arith}
 use lib.ListN.{replicate}
 use borrow.Author.Needs.{needs}
 use Rattle.numbers.specs.declared.Limit.the-variants as limit
-use Rattle.forms.specs.Forms.{got, plain, placeOf}
-use Rattle.forms.specs.declared.Place.the-variants as place
+use Rattle.forms.specs.Forms.{got, plain}
 use Rattle.schedule.specs.Schedule.{headerOf, headerNo}
-use Rattle.schedule.proofs.Parts.{place-refused, six-taken, six-small, check-no-six, check-no-header, check-events}
+use Rattle.schedule.proofs.Parts.{place-refused, six-passed, six-small, check-no-six, check-no-header, check-events}
 use Rattle.schedule.proofs.check.Statement.{statement}
 use Rattle.schedule.proofs.check.Tie as tie
 
@@ -25,10 +24,7 @@ take-numbers-requires c κs = search needs
 
 -- the six numbers and the place after them
 six : (c : tie.After-six2) → plain 6 limit.Schedule (c .before .before .before .before .before .before .before .before .args .bytes .now) 0 ≡ got (c .before .take-numbers .last .0) (c .before .before .before .before .place .given .0 .0)
-six c =
-    let bytes = c .before .before .before .before .before .before .before .before .args .bytes .now in
-    let e : placeOf (plain 6 limit.Schedule bytes 0) ≡ place.Next (c .before .before .before .before .place .given .0 .0) = cc in
-    rw (c .before .take-numbers .ensures) (six-taken bytes (replicate 6 0) refl e)
+six c = six-passed (c .before .before .before .before .before .before .before .before .args .bytes .now) (replicate 6 0) refl (c .before .before .before .before .before .before .skip-numbers .ensures) (c .before .before .before .before .place .given .1) (c .before .take-numbers .ensures)
 
 header-of-requires : tie.Need-header-of-requires
 header-of-requires c κs = six-small (c .before .before .before .before .before .before .before .before .args .bytes .now) (λ i. omega (arith, c .before .before .before .before .before .before .before .shared-slice-known .given i)) (six c)
@@ -39,7 +35,7 @@ header-no-requires c κs = search needs
 returns : tie.Need-returns
 returns c =
     let six = six (c .before .before .before) in
-    let n : c .before .header-no .result ≡ headerNo (headerOf (c .before .before .before .before .take-numbers .last .0)) = cc in
+    let n : c .before .header-no .result ≡ headerNo (headerOf (c .before .before .before .before .take-numbers .last .0)) = c .before .header-no .ensures ∙ ap headerNo (c .before .before .header-of .ensures) in
     rw n (sym (check-no-header (c .before .before .before .before .before .before .before .before .before .before .before .args .bytes .now) six (λ z. c .if1 .taken (n ∙ z))))
 
 cast-count : tie.Need-cast-count
@@ -67,7 +63,7 @@ returns-2 c =
 returns-3 : tie.Need-returns-3
 returns-3 c =
     let bytes = c .before .before .before .before .before .args .bytes .now in
-    let e : placeOf (plain 6 limit.Schedule bytes 0) ≡ place.Refused (c .before .place2 .given .0 .0) = cc in
+    let e = sym (c .before .before .before .skip-numbers .ensures) ∙ c .before .place2 .given .1 in
     sym (check-no-six bytes (place-refused (plain 6 limit.Schedule bytes 0) e))
 
 pub check-spec : {M : Type 1} → statement M

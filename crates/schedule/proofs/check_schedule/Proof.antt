@@ -1,9 +1,7 @@
 -- `schedule::check_schedule` meets its contract: the check answers as reading does. Assumes nothing.
-use mathlib.Core.Path.{_≡_}
+use mathlib.Core.Path.{sym, _∙_}
 use borrow.Author.Needs.{needs}
 use Rattle.schedule.specs.Schedule.{checkAnswer}
-use Rattle.schedule.specs.Steps.{checked}
-use Rattle.schedule.specs.declared.Checked.the-variants as form
 use Rattle.schedule.proofs.Parts.{check-form, check-refused}
 use Rattle.schedule.proofs.check_schedule.Statement.{statement}
 use Rattle.schedule.proofs.check_schedule.Tie as tie
@@ -21,17 +19,14 @@ returns : tie.Need-returns
 unfolding checkAnswer
 returns c =
     let bytes = c .before .before .before .before .before .args .bytes .now in
-    let g = c .before .answer .given .0 in
-    let e : checked bytes ≡ form.Form (g .0) (g .1 .0) = cc in
-    let f = check-form bytes e in
+    let f = check-form bytes (sym (c .before .before .before .check .ensures) ∙ c .before .answer .given .1) in
     rw (f .read, f .header)
 
 returns-2 : tie.Need-returns-2
 unfolding checkAnswer
 returns-2 c =
     let bytes = c .before .before .before .before .before .args .bytes .now in
-    let e : checked bytes ≡ form.Refused (c .before .answer2 .given .0 .0) = cc in
-    rw (check-refused bytes e)
+    rw (check-refused bytes (sym (c .before .before .before .check .ensures) ∙ c .before .answer2 .given .1))
 
 pub check-schedule-spec : {M : Type 1} → statement M
 check-schedule-spec =

@@ -1,8 +1,6 @@
 -- `schedule::ended` meets its contract. Assumes nothing.
-use mathlib.Core.Path.{_≡_}
 use borrow.Author.Needs.{needs}
 use borrow.Author.Tests.{lt-ltb, le-ltb}
-use Rattle.forms.specs.declared.Place.the-variants as place
 use Rattle.schedule.proofs.ended.Statement.{statement}
 use Rattle.schedule.proofs.ended.Tie as tie
 
@@ -13,22 +11,13 @@ enum-known-place-2 : tie.Need-enum-known-place-2
 enum-known-place-2 c = search needs
 
 returns : tie.Need-returns
-returns c =
-    let a = c .before .before .before .before .args in
-    let e : a .place ≡ place.Next (c .before .before .place .given .0 .0) = cc in
-    simp (e, lt-ltb _ _ (c .if1 .taken))
+returns c = simp (c .before .before .place .given .1, lt-ltb _ _ (c .if1 .taken))
 
 returns-2 : tie.Need-returns-2
-returns-2 c =
-    let a = c .before .before .before .before .args in
-    let e : a .place ≡ place.Next (c .before .before .place .given .0 .0) = cc in
-    simp (e, le-ltb _ _ (c .if1 .left))
+returns-2 c = simp (c .before .before .place .given .1, le-ltb _ _ (c .if1 .left))
 
 returns-3 : tie.Need-returns-3
-returns-3 c =
-    let a = c .before .before .before .args in
-    let e : a .place ≡ place.Refused (c .before .place2 .given .0 .0) = cc in
-    simp e
+returns-3 c = simp (c .before .place2 .given .1)
 
 pub ended-spec : {M : Type 1} → statement M
 ended-spec = tie.close (tie.spec enum-known-place enum-known-place-2 returns returns-2 returns-3)

@@ -1,8 +1,6 @@
 -- `schedule::read_schedule` meets its contract: the room is filled only where the whole form is right and it is large enough. Assumes nothing.
-use mathlib.Core.Path.{_≡_}
+use mathlib.Core.Path.{sym, _∙_}
 use borrow.Author.Needs.{needs}
-use Rattle.schedule.specs.Steps.{checked}
-use Rattle.schedule.specs.declared.Checked.the-variants as form
 use Rattle.schedule.proofs.Parts.{check-form, check-refused}
 use Rattle.schedule.proofs.Answers.{no-form, small, filled}
 use Rattle.schedule.proofs.read_schedule.Statement.{statement}
@@ -23,9 +21,7 @@ mul-count c = search needs
 returns : tie.Need-returns
 returns c =
     let a = c .before .before .before .before .before .before .before .before .args in
-    let g = c .before .before .before .answer .given .0 in
-    let e : checked (a .bytes .now) ≡ form.Form (g .0) (g .1 .0) = cc in
-    let f = check-form (a .bytes .now) e in
+    let f = check-form (a .bytes .now) (sym (c .before .before .before .before .before .check .ensures) ∙ c .before .before .before .answer .given .1) in
     let w = small (a .room .now) (f .vs) (f .next) (rw (f .header) (c .if1 .taken)) in
     rw (f .read) (w .answer, w .after)
 
@@ -41,16 +37,14 @@ same-length c = search needs
 returns-2 : tie.Need-returns-2
 returns-2 c =
     let a = c .before .before .before .before .before .before .before .before .before .before .before .before .args in
-    let g = c .before .before .before .before .before .before .before .answer .given .0 in
-    let e : checked (a .bytes .now) ≡ form.Form (g .0) (g .1 .0) = cc in
-    let f = check-form (a .bytes .now) e in
+    let f = check-form (a .bytes .now) (sym (c .before .before .before .before .before .before .before .before .before .check .ensures) ∙ c .before .before .before .before .before .before .before .answer .given .1) in
     let w = filled (a .room .now) (f .vs) (f .next) (rw (f .header) (c .before .before .before .before .if1 .left)) in
     rw (f .read) (rw (f .header) at (w .answer), rw (c .before .before .take-numbers .ensures, f .taken) (w .after))
 
 returns-3 : tie.Need-returns-3
 returns-3 c =
     let a = c .before .before .before .before .before .before .args in
-    let e : checked (a .bytes .now) ≡ form.Refused (c .before .answer2 .given .0 .0) = cc in
+    let e = sym (c .before .before .before .check .ensures) ∙ c .before .answer2 .given .1 in
     let w = no-form (a .room .now) (c .before .answer2 .given .0 .0) in
     rw (check-refused (a .bytes .now) e) (w .answer, w .after)
 

@@ -6,7 +6,7 @@ use Prim.Native.Nat.{_-_, _≤_}
 use native.Mathlib.Omega.{arith}
 use borrow.Author.Needs.{needs}
 use Rattle.shelf.specs.Shelf.{newest}
-use Rattle.shelf.proofs.Asking.{newest-next, newest-other}
+use Rattle.shelf.proofs.Asking.{newest-considered, newest-other}
 use Rattle.shelf.proofs.newest_of.Statement.{statement}
 use Rattle.shelf.proofs.newest_of.Tie as tie
 
@@ -38,8 +38,8 @@ loop-again c =
     let l = c .before .before .before .loop in (
       omega arith,
       ⊎-elim
-          (λ w. newest-next (a .fields .now) (a .set) (a .tag) (l .i) (cc))
-          (λ w. newest-other (a .fields .now) (a .set) (a .tag) (l .i) (cc) (λ q. w .0 .left (c .before .tag-at .ensures ∙ q)))
+          (λ w. newest-considered (a .fields .now) (a .set) (a .tag) (l .i) (l .inv .1) (w .1 .ensures) (w .2))
+          (λ w. newest-other (a .fields .now) (a .set) (a .tag) (l .i) (w .1 ∙ l .inv .1) (λ q. w .0 .left (c .before .tag-at .ensures ∙ q)))
           (c .if1 .came),
     )
 

@@ -2,7 +2,7 @@
 use Rattle.numbers.specs.declared.Limit.the-variants.{Table}
 use Rattle.forms.specs.Forms.{asRead}
 use Rattle.scan_table.specs.Table.{tagNo, shelfNo, deviceNo, timeNo}
-use Rattle.scan_table.proofs.Testing.{four-no, as-read}
+use Rattle.scan_table.proofs.Testing.{number-no, first-of-four}
 use borrow.Author.Needs.{needs}
 use Rattle.scan_table.proofs.Scan.written_no.Statement.{statement}
 use Rattle.scan_table.proofs.Scan.written_no.Tie as tie
@@ -54,14 +54,19 @@ first-no-requires-7 c κs = search needs
 
 returns : tie.Need-returns
 returns c =
-    let s = c .before .before .before .before .before .before .before .before .before .before .before .before .before .before .before .args .self in
-    cc (
-      four-no (asRead Table tagNo) (asRead Table shelfNo) (asRead Table deviceNo) (asRead Table timeNo) (s .tag) (s .shelf) (s .device) (s .time),
-      as-read tagNo (s .tag),
-      as-read shelfNo (s .shelf),
-      as-read deviceNo (s .device),
-      as-read timeNo (s .time),
-    )
+    let f₄ = c .before .before .before in
+    let f₃ = f₄ .before .before .before in
+    let f₂ = f₃ .before .before .before in
+    let f₁ = f₂ .before .before .before in
+    let s = f₁ .before .before .before .args .self in
+    first-of-four (asRead Table tagNo) (asRead Table shelfNo) (asRead Table deviceNo) (asRead Table timeNo) (s .tag) (s .shelf) (s .device) (s .time)
+    (number-no tagNo (s .tag) (f₁ .before .before .coding-no .ensures) (f₁ .before .tag-no .ensures) (f₁ .first-no .ensures))
+    (number-no shelfNo (s .shelf) (f₂ .before .before .coding-no2 .ensures) (f₂ .before .shelf-no .ensures) (f₂ .first-no2 .ensures))
+    (number-no deviceNo (s .device) (f₃ .before .before .coding-no3 .ensures) (f₃ .before .device-no .ensures) (f₃ .first-no3 .ensures))
+    (number-no timeNo (s .time) (f₄ .before .before .coding-no4 .ensures) (f₄ .before .time-no .ensures) (f₄ .first-no4 .ensures))
+    (c .before .before .first-no5 .ensures)
+    (c .before .first-no6 .ensures)
+    (c .first-no7 .ensures)
 
 pub written-no-spec : {M : Type 1} → statement M
 written-no-spec =

@@ -1,6 +1,9 @@
+use mathlib.Core.Bool.{Bool, _&&_}
+use mathlib.Core.Path.{_≡_}
 use borrow.Author.Needs.{needs}
 use Rattle.sets.specs.Acceptors.{mostAcceptors}
-use Rattle.sizes.specs.Sizes.{sizesInRange}
+use Rattle.sizes.specs.Sizes.{between, scansInRange, sizesInRange}
+use Rattle.sizes.specs.declared.Sizes.{Sizes}
 use Rattle.sizes.proofs.Sizes.in_range.Statement.{statement}
 use Rattle.sizes.proofs.Sizes.in_range.Tie as tie
 
@@ -49,9 +52,16 @@ both-requires-3 c κs = search needs
 both-requires-4 : tie.Need-both-requires-4
 both-requires-4 c κs = search needs
 
-returns : tie.Need-returns
+-- the five tests, joined one after the other
+joined : (z : Sizes) {p a l m s two three four all : Bool} → p ≡ between 1 8 (z .proposers) → a ≡ between 1 7 (z .acceptors) → l ≡ between 1 8 (z .learners) → m ≡ between 16 512 (z .slots) → s ≡ scansInRange (z .scans)
+    → two ≡ (p && a) → three ≡ (two && l) → four ≡ (three && m) → all ≡ (four && s) → all ≡ sizesInRange z
 unfolding sizesInRange mostAcceptors
-returns c = cc
+joined z e f g h i j k l m = cc
+
+returns : tie.Need-returns
+returns c =
+    let s = c .before .before .before .before in
+    joined (s .before .before .before .before .before .before .before .before .before .before .args .self) (s .before .before .before .before .before .before .before .before .is-between .ensures) (s .before .before .before .before .before .before .is-between2 .ensures) (s .before .before .before .before .is-between3 .ensures) (s .before .before .is-between4 .ensures) (s .scans-in-range .ensures) (c .before .before .before .both .ensures) (c .before .before .both2 .ensures) (c .before .both3 .ensures) (c .both4 .ensures)
 
 pub in-range-spec : {M : Type 1} → statement M
 in-range-spec =

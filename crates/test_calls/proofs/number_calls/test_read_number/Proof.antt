@@ -1,8 +1,7 @@
-use mathlib.Core.Path.{_≡_}
-use denote.Ref.{now}
-use Rattle.numbers.specs.Coding.{readNumber}
-use Rattle.numbers.specs.declared.Read.the-variants as read
-use Rattle.test_calls.specs.Words.{limitOf}
+use mathlib.Core.Path.{sym, ap, _∙_}
+use Rattle.numbers.specs.Coding.{readNumber, readNo, readValue, readNext}
+use Rattle.numbers.specs.declared.Limit.{Limit}
+use Rattle.numbers.specs.declared.Read.{Read}
 use borrow.Author.Needs.{needs}
 use Rattle.test_calls.proofs.number_calls.test_read_number.Statement.{statement}
 use Rattle.test_calls.proofs.number_calls.test_read_number.Tie as tie
@@ -22,16 +21,16 @@ enum-known-answer-2 c = search needs
 returns : tie.Need-returns
 returns c =
     let a = c .before .before .before .before .before .before .args in
-    let g = c .before .answer .given .0 in
-    let e : readNumber (limitOf (a .limit)) (now (a .bytes)) (a .at) ≡ read.Number (g .0) (g .1 .0) = cc in
-    (simp e, simp e, simp e)
+    let l = ap (λ (x : Limit). readNumber x (a .bytes .now) (a .at)) (c .before .before .before .before .limit-of .ensures) in
+    let e = sym (c .before .answer .given .1) ∙ c .before .before .before .read-number .ensures ∙ l in
+    (ap readNo e, ap (λ (x : Read). readValue x (a .value .now)) e, ap (λ (x : Read). readNext x (a .next .now)) e)
 
 returns-2 : tie.Need-returns-2
 returns-2 c =
     let a = c .before .before .before .before .before .before .args in
-    let g = c .before .answer2 .given .0 in
-    let e : readNumber (limitOf (a .limit)) (now (a .bytes)) (a .at) ≡ read.Refused (g .0) = cc in
-    (simp e, simp e, simp e)
+    let l = ap (λ (x : Limit). readNumber x (a .bytes .now) (a .at)) (c .before .before .before .before .limit-of .ensures) in
+    let e = sym (c .before .answer2 .given .1) ∙ c .before .before .before .read-number .ensures ∙ l in
+    (ap readNo e, ap (λ (x : Read). readValue x (a .value .now)) e, ap (λ (x : Read). readNext x (a .next .now)) e)
 
 pub test-read-number-spec : {M : Type 1} → statement M
 test-read-number-spec =

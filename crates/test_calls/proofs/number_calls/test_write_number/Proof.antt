@@ -1,8 +1,7 @@
-use mathlib.Core.Path.{_≡_}
-use denote.Ref.{now}
-use Rattle.numbers.specs.Coding.{writeAnswer}
-use Rattle.numbers.specs.declared.Written.the-variants as written
-use Rattle.test_calls.specs.Words.{limitOf}
+use mathlib.Core.Path.{sym, ap, _∙_}
+use Rattle.numbers.specs.Coding.{writeAnswer, afterWrite, writtenNo, writtenNext}
+use Rattle.numbers.specs.declared.Limit.{Limit}
+use Rattle.numbers.specs.declared.Written.{Written}
 use borrow.Author.Needs.{needs}
 use Rattle.test_calls.proofs.number_calls.test_write_number.Statement.{statement}
 use Rattle.test_calls.proofs.number_calls.test_write_number.Tie as tie
@@ -25,9 +24,10 @@ same-length c = search needs
 returns : tie.Need-returns
 returns c =
     let a = c .before .before .before .before .before .before .before .before .before .args in
-    let g = c .before .answer .given .0 in
-    let e : writeAnswer (limitOf (a .limit)) (a .value) (now (a .buffer)) (a .at) ≡ written.Next (g .0) = cc in
-    (simp e, cc, simp e)
+    let l = c .before .before .before .before .before .before .limit-of .ensures in
+    let w = c .before .before .before .before .before .write-number .ensures in
+    let e = sym (c .before .answer .given .1) ∙ w .0 ∙ ap (λ (x : Limit). writeAnswer x (a .value) (a .buffer .now) (a .at)) l in
+    (ap writtenNo e, w .1 ∙ ap (λ (x : Limit). afterWrite x (a .value) (a .buffer .now) (a .at)) l, ap (λ (x : Written). writtenNext x (a .next .now)) e)
 
 same-length-2 : tie.Need-same-length-2
 same-length-2 c = search needs
@@ -35,9 +35,10 @@ same-length-2 c = search needs
 returns-2 : tie.Need-returns-2
 returns-2 c =
     let a = c .before .before .before .before .before .before .before .before .before .args in
-    let g = c .before .answer2 .given .0 in
-    let e : writeAnswer (limitOf (a .limit)) (a .value) (now (a .buffer)) (a .at) ≡ written.Refused (g .0) = cc in
-    (simp e, cc, simp e)
+    let l = c .before .before .before .before .before .before .limit-of .ensures in
+    let w = c .before .before .before .before .before .write-number .ensures in
+    let e = sym (c .before .answer2 .given .1) ∙ w .0 ∙ ap (λ (x : Limit). writeAnswer x (a .value) (a .buffer .now) (a .at)) l in
+    (ap writtenNo e, w .1 ∙ ap (λ (x : Limit). afterWrite x (a .value) (a .buffer .now) (a .at)) l, ap (λ (x : Written). writtenNext x (a .next .now)) e)
 
 pub test-write-number-spec : {M : Type 1} → statement M
 test-write-number-spec =

@@ -1,7 +1,6 @@
-use mathlib.Core.Path.{_≡_}
-use denote.Ref.{now}
-use Rattle.schedule.specs.Schedule.{numbersOf, readSchedule, readAnswer}
-use Rattle.schedule.specs.declared.ScheduleRead.the-variants as schedule
+use mathlib.Core.Path.{sym, ap, _∙_}
+use Rattle.schedule.specs.Schedule.{numbersOf, scheduleReadNo, scheduleHeader}
+use Rattle.schedule.specs.declared.ScheduleRead.{ScheduleRead}
 use borrow.Author.Needs.{needs}
 use Rattle.test_calls.proofs.schedule_calls.test_read_schedule.Statement.{statement}
 use Rattle.test_calls.proofs.schedule_calls.test_read_schedule.Tie as tie
@@ -22,9 +21,9 @@ returns : tie.Need-returns
 unfolding numbersOf
 returns c =
     let a = c .before .before .before .before .before .before .before .before .before .before .before .args in
-    let g = c .before .before .before .answer .given .0 in
-    let e : readAnswer (readSchedule (now (a .bytes))) (now (a .room)) ≡ schedule.Events (g .0) = cc in
-    (simp e, cc, simp e)
+    let r = c .before .before .before .before .before .before .before .read-schedule .ensures in
+    let e = sym (c .before .before .before .answer .given .1) ∙ r .0 in
+    (ap scheduleReadNo e, r .1, ap (λ (x : ScheduleRead). scheduleHeader x (a .header .now)) e)
 
 same-length-2 : tie.Need-same-length-2
 same-length-2 c = search needs
@@ -32,9 +31,9 @@ same-length-2 c = search needs
 returns-2 : tie.Need-returns-2
 returns-2 c =
     let a = c .before .before .before .before .before .before .before .before .before .args in
-    let g = c .before .answer2 .given .0 in
-    let e : readAnswer (readSchedule (now (a .bytes))) (now (a .room)) ≡ schedule.Refused (g .0) = cc in
-    (simp e, cc, simp e)
+    let r = c .before .before .before .before .before .read-schedule .ensures in
+    let e = sym (c .before .answer2 .given .1) ∙ r .0 in
+    (ap scheduleReadNo e, r .1, ap (λ (x : ScheduleRead). scheduleHeader x (a .header .now)) e)
 
 pub test-read-schedule-spec : {M : Type 1} → statement M
 test-read-schedule-spec =

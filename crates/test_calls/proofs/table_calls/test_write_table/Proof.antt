@@ -1,7 +1,6 @@
-use mathlib.Core.Path.{_≡_}
-use denote.Ref.{now}
-use Rattle.scan_table.specs.Table.{writeAnswer}
-use Rattle.numbers.specs.declared.Written.the-variants as written
+use mathlib.Core.Path.{sym, ap, _∙_}
+use Rattle.numbers.specs.Coding.{writtenNo, writtenNext}
+use Rattle.numbers.specs.declared.Written.{Written}
 use borrow.Author.Needs.{needs}
 use Rattle.test_calls.proofs.table_calls.test_write_table.Statement.{statement}
 use Rattle.test_calls.proofs.table_calls.test_write_table.Tie as tie
@@ -21,9 +20,9 @@ same-length c = search needs
 returns : tie.Need-returns
 returns c =
     let a = c .before .before .before .before .before .before .before .before .before .args in
-    let g = c .before .answer .given .0 in
-    let e : writeAnswer (now (a .fields)) (now (a .buffer)) ≡ written.Next (g .0) = cc in
-    (simp e, cc, simp e)
+    let w = c .before .before .before .before .before .write-table .ensures in
+    let e = sym (c .before .answer .given .1) ∙ w .0 in
+    (ap writtenNo e, w .1, ap (λ (x : Written). writtenNext x (a .next .now)) e)
 
 same-length-2 : tie.Need-same-length-2
 same-length-2 c = search needs
@@ -31,9 +30,9 @@ same-length-2 c = search needs
 returns-2 : tie.Need-returns-2
 returns-2 c =
     let a = c .before .before .before .before .before .before .before .before .before .args in
-    let g = c .before .answer2 .given .0 in
-    let e : writeAnswer (now (a .fields)) (now (a .buffer)) ≡ written.Refused (g .0) = cc in
-    (simp e, cc, simp e)
+    let w = c .before .before .before .before .before .write-table .ensures in
+    let e = sym (c .before .answer2 .given .1) ∙ w .0 in
+    (ap writtenNo e, w .1, ap (λ (x : Written). writtenNext x (a .next .now)) e)
 
 pub test-write-table-spec : {M : Type 1} → statement M
 test-write-table-spec =

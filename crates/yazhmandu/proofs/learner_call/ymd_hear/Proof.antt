@@ -1,14 +1,9 @@
-use mathlib.Core.Path.{ap, _∙_}
 use native.Mathlib.Omega.{arith}
-use borrow.Author.Tests.{lt-ltb, le-ltb}
+use borrow.Author.Tests.{lt-ltb, le-ltb, not-true, not-false}
 use borrow.Author.Needs.{needs}
-use Rattle.model.specs.Rules.{listening}
-use Rattle.model.specs.Table.{Announcement}
-use Rattle.model.specs.declared.Learner.{Learner}
-use Rattle.layouts.specs.Layout.{setAt, isLearner, learnerAt}
-use Rattle.layouts.proofs.Parts.{passed, failed, flag-byte, learner-sizes, few-proposers, few-acceptors, answer-acceptor, answer-number}
-use Rattle.layouts.proofs.Places.{eight-listening, learner-whole}
-use Rattle.yazhmandu.specs.Calls.{hearNo, hearRecord, hearLearns}
+use Rattle.layouts.specs.Layout.{isLearner}
+use Rattle.layouts.proofs.Parts.{passed, failed, learner-sizes, few-proposers, few-acceptors, answer-acceptor, answer-number}
+use Rattle.yazhmandu.proofs.Hearing.{not-learner, not-proposer, not-answer, not-set, not-alive, hears}
 use Rattle.yazhmandu.proofs.learner_call.ymd_hear.Statement.{statement}
 use Rattle.yazhmandu.proofs.learner_call.ymd_hear.Tie as tie
 
@@ -19,20 +14,18 @@ same-length : tie.Need-same-length
 same-length c = search needs
 
 returns : tie.Need-returns
-unfolding hearNo hearRecord hearLearns
 returns c =
-    let e = failed (c .before .is-learner .ensures) (c .if1 .taken) in
-    (simp e, simp e, simp e)
+    let a = c .before .before .before .before .before .args in
+    not-learner (a .proposers) (a .acceptors) (a .scans) (a .kept .now) (a .proposer) (a .acceptor) (a .number) (a .set .now) (a .learns .now) (failed (c .before .is-learner .ensures) (c .if1 .taken))
 
 same-length-2 : tie.Need-same-length-2
 same-length-2 c = search needs
 
 returns-2 : tie.Need-returns-2
-unfolding hearNo hearRecord hearLearns
 returns-2 c =
-    let e = passed (c .before .before .is-learner .ensures) (c .before .if1 .left) in
-    let f = le-ltb _ _ (c .if2 .taken) in
-    (simp (e, f), simp (e, f), simp (e, f))
+    let t₁ = c .before in
+    let a = t₁ .before .before .before .before .before .args in
+    not-proposer (a .proposers) (a .acceptors) (a .scans) (a .kept .now) (a .proposer) (a .acceptor) (a .number) (a .set .now) (a .learns .now) (passed (t₁ .before .is-learner .ensures) (t₁ .if1 .left)) (le-ltb _ _ (c .if2 .taken))
 
 is-answer-requires : tie.Need-is-answer-requires
 is-answer-requires c κs = search needs
@@ -41,14 +34,11 @@ same-length-3 : tie.Need-same-length-3
 same-length-3 c = search needs
 
 returns-3 : tie.Need-returns-3
-unfolding hearNo hearRecord hearLearns
 returns-3 c =
     let t₂ = c .before .before in
     let t₁ = t₂ .before in
-    let e = passed (t₁ .before .is-learner .ensures) (t₁ .if1 .left) in
-    let f = lt-ltb _ _ (t₂ .if2 .left) in
-    let g = failed (c .before .is-answer .ensures) (c .if3 .taken) in
-    (simp (e, f, g), simp (e, f, g), simp (e, f, g))
+    let a = t₁ .before .before .before .before .before .args in
+    not-answer (a .proposers) (a .acceptors) (a .scans) (a .kept .now) (a .proposer) (a .acceptor) (a .number) (a .set .now) (a .learns .now) (passed (t₁ .before .is-learner .ensures) (t₁ .if1 .left)) (lt-ltb _ _ (t₂ .if2 .left)) (failed (c .before .is-answer .ensures) (c .if3 .taken))
 
 is-set-requires : tie.Need-is-set-requires
 is-set-requires c κs = search needs
@@ -57,16 +47,12 @@ same-length-4 : tie.Need-same-length-4
 same-length-4 c = search needs
 
 returns-4 : tie.Need-returns-4
-unfolding hearNo hearRecord hearLearns
 returns-4 c =
     let t₃ = c .before .before in
     let t₂ = t₃ .before .before in
     let t₁ = t₂ .before in
-    let e = passed (t₁ .before .is-learner .ensures) (t₁ .if1 .left) in
-    let f = lt-ltb _ _ (t₂ .if2 .left) in
-    let g = passed (t₃ .before .is-answer .ensures) (t₃ .if3 .left) in
-    let h = failed (c .before .is-set .ensures) (c .if4 .taken) in
-    (simp (e, f, g, h), simp (e, f, g, h), simp (e, f, g, h))
+    let a = t₁ .before .before .before .before .before .args in
+    not-set (a .proposers) (a .acceptors) (a .scans) (a .kept .now) (a .proposer) (a .acceptor) (a .number) (a .set .now) (a .learns .now) (passed (t₁ .before .is-learner .ensures) (t₁ .if1 .left)) (lt-ltb _ _ (t₂ .if2 .left)) (passed (t₃ .before .is-answer .ensures) (t₃ .if3 .left)) (failed (c .before .is-set .ensures) (c .if4 .taken))
 
 learner-at-requires : tie.Need-learner-at-requires
 learner-at-requires c κs = search needs
@@ -75,7 +61,6 @@ same-length-5 : tie.Need-same-length-5
 same-length-5 c = search needs
 
 returns-5 : tie.Need-returns-5
-unfolding hearNo hearRecord hearLearns
 returns-5 c =
     let t₄ = c .before .before .before .before in
     let t₃ = t₄ .before .before in
@@ -83,11 +68,7 @@ returns-5 c =
     let t₁ = t₂ .before in
     let a = t₁ .before .before .before .before .before .args in
     let e = passed {t = isLearner (a .proposers) (a .acceptors) (a .scans) (a .kept .now)} (t₁ .before .is-learner .ensures) (t₁ .if1 .left) in
-    let f = lt-ltb _ _ (t₂ .if2 .left) in
-    let g = passed (t₃ .before .is-answer .ensures) (t₃ .if3 .left) in
-    let h = passed (t₄ .before .is-set .ensures) (t₄ .if4 .left) in
-    let i = failed (ap (λ (l : Learner). l .alive) (c .before .before .learner-at .ensures)) (c .if5 .taken) in
-    (simp (e, f, g, h, i), simp (e, f, g, h, i), simp (e, f, g, h, i))
+    not-alive (a .proposers) (a .acceptors) (a .scans) (a .kept .now) (a .proposer) (a .acceptor) (a .number) (a .set .now) (a .learns .now) e (lt-ltb _ _ (t₂ .if2 .left)) (passed (t₃ .before .is-answer .ensures) (t₃ .if3 .left)) (passed (t₄ .before .is-set .ensures) (t₄ .if4 .left)) (c .before .before .learner-at .ensures) (not-true _ (c .if5 .taken))
 
 cast-learns : tie.Need-cast-learns
 cast-learns c =
@@ -146,7 +127,6 @@ same-length-6 : tie.Need-same-length-6
 same-length-6 c = search needs
 
 returns-6 : tie.Need-returns-6
-unfolding hearNo hearRecord hearLearns
 returns-6 c =
     let t₅ = c .before .before .before .before .before .before .before in
     let t₄ = t₅ .before .before .before .before in
@@ -155,14 +135,7 @@ returns-6 c =
     let t₁ = t₂ .before in
     let a = t₁ .before .before .before .before .before .args in
     let e = passed {t = isLearner (a .proposers) (a .acceptors) (a .scans) (a .kept .now)} (t₁ .before .is-learner .ensures) (t₁ .if1 .left) in
-    let f = lt-ltb _ _ (t₂ .if2 .left) in
-    let g = passed (t₃ .before .is-answer .ensures) (t₃ .if3 .left) in
-    let h = passed (t₄ .before .is-set .ensures) (t₄ .if4 .left) in
-    let i = passed (ap (λ (l : Learner). l .alive) (t₅ .before .before .learner-at .ensures)) (t₅ .if5 .left) in
-    let given = c .before .before .before .before .before .before .set-at .ensures in
-    let before = t₅ .before .before .learner-at .ensures in
-    let told = Announcement (a .proposer) (a .acceptor) (a .number) (setAt (a .set .now) 0) 0 in
-    (simp (e, f, g, h, i), simp (e, f, g, h, i) (simp (c .before .before .put-learner .ensures, c .before .before .before .hear .ensures, given, before) (learner-whole (a .proposers) (a .acceptors) (a .scans) (a .kept .now) (listening (a .acceptors) (learnerAt (a .proposers) (a .kept .now)) told) (eight-listening (a .acceptors) (a .proposers) (a .kept .now) told) e)), simp (e, f, g, h, i) (flag-byte (c .before .before .before .before .before .learns .result) ∙ simp (c .before .before .before .before .before .learns .ensures, given, before)))
+    hears (a .proposers) (a .acceptors) (a .scans) (a .kept .now) (a .proposer) (a .acceptor) (a .number) (a .set .now) (a .learns .now) e (lt-ltb _ _ (t₂ .if2 .left)) (passed (t₃ .before .is-answer .ensures) (t₃ .if3 .left)) (passed (t₄ .before .is-set .ensures) (t₄ .if4 .left)) (t₅ .before .before .learner-at .ensures) (not-false _ (t₅ .if5 .left)) (c .before .before .before .before .before .before .set-at .ensures) (c .before .before .before .before .before .learns .ensures) (c .before .before .before .hear .ensures) (c .before .before .put-learner .ensures)
 
 pub ymd-hear-spec : {M : Type 1} → statement M
 ymd-hear-spec =

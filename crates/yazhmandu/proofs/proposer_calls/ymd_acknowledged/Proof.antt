@@ -1,10 +1,8 @@
-use mathlib.Core.Path.{ap, _∙_}
 use native.Mathlib.Omega.{arith}
 use borrow.Author.Needs.{needs}
-use Rattle.model.specs.Rules.{isCurrent}
-use Rattle.model.specs.declared.Proposer.{Proposer}
-use Rattle.layouts.proofs.Parts.{passed, failed, proposer-whole, proposer-sizes, few-acceptors, answer-acceptor, answer-number}
-use Rattle.yazhmandu.specs.Calls.{acknowledgedNo, acknowledgedRecord}
+use borrow.Author.Tests.{not-true, not-false}
+use Rattle.layouts.proofs.Parts.{passed, failed, proposer-sizes, few-acceptors, answer-acceptor, answer-number}
+use Rattle.yazhmandu.proofs.Answered.{acknowledged-no-proposer, acknowledged-no-answer, acknowledged-crashed, acknowledged-late, acknowledged-taken}
 use Rattle.yazhmandu.proofs.proposer_calls.ymd_acknowledged.Statement.{statement}
 use Rattle.yazhmandu.proofs.proposer_calls.ymd_acknowledged.Tie as tie
 
@@ -15,10 +13,9 @@ same-length : tie.Need-same-length
 same-length c = search needs
 
 returns : tie.Need-returns
-unfolding acknowledgedNo acknowledgedRecord
 returns c =
-    let e = failed (c .before .is-proposer .ensures) (c .if1 .taken) in
-    (simp e, simp e)
+    let a = c .before .before .before .before .args in
+    acknowledged-no-proposer (a .acceptors) (a .scans) (a .kept .now) (a .acceptor) (a .number) (failed (c .before .is-proposer .ensures) (c .if1 .taken))
 
 is-answer-requires : tie.Need-is-answer-requires
 is-answer-requires c κs = search needs
@@ -27,11 +24,10 @@ same-length-2 : tie.Need-same-length-2
 same-length-2 c = search needs
 
 returns-2 : tie.Need-returns-2
-unfolding acknowledgedNo acknowledgedRecord
 returns-2 c =
-    let e = passed (c .before .before .before .is-proposer .ensures) (c .before .before .if1 .left) in
-    let f = failed (c .before .is-answer .ensures) (c .if2 .taken) in
-    (simp (e, f), simp (e, f))
+    let t₁ = c .before .before in
+    let a = t₁ .before .before .before .before .args in
+    acknowledged-no-answer (a .acceptors) (a .scans) (a .kept .now) (a .acceptor) (a .number) (passed (t₁ .before .is-proposer .ensures) (t₁ .if1 .left)) (failed (c .before .is-answer .ensures) (c .if2 .taken))
 
 proposer-at-requires : tie.Need-proposer-at-requires
 proposer-at-requires c κs = search needs
@@ -40,14 +36,11 @@ same-length-3 : tie.Need-same-length-3
 same-length-3 c = search needs
 
 returns-3 : tie.Need-returns-3
-unfolding acknowledgedNo acknowledgedRecord
 returns-3 c =
     let t₂ = c .before .before .before .before in
     let t₁ = t₂ .before .before in
-    let e = passed (t₁ .before .is-proposer .ensures) (t₁ .if1 .left) in
-    let f = passed (t₂ .before .is-answer .ensures) (t₂ .if2 .left) in
-    let g = failed (ap (λ (p : Proposer). p .alive) (c .before .before .proposer-at .ensures)) (c .if3 .taken) in
-    (simp (e, f, g), simp (e, f, g))
+    let a = t₁ .before .before .before .before .args in
+    acknowledged-crashed (a .acceptors) (a .scans) (a .kept .now) (a .acceptor) (a .number) (passed (t₁ .before .is-proposer .ensures) (t₁ .if1 .left)) (passed (t₂ .before .is-answer .ensures) (t₂ .if2 .left)) (c .before .before .proposer-at .ensures) (not-true _ (c .if3 .taken))
 
 cast-is-current : tie.Need-cast-is-current
 cast-is-current c =
@@ -62,17 +55,12 @@ same-length-4 : tie.Need-same-length-4
 same-length-4 c = search needs
 
 returns-4 : tie.Need-returns-4
-unfolding acknowledgedNo acknowledgedRecord
 returns-4 c =
     let t₃ = c .before .before in
     let t₂ = t₃ .before .before .before .before in
     let t₁ = t₂ .before .before in
-    let e = passed (t₁ .before .is-proposer .ensures) (t₁ .if1 .left) in
-    let f = passed (t₂ .before .is-answer .ensures) (t₂ .if2 .left) in
-    let g = passed (ap (λ (p : Proposer). p .alive) (t₃ .before .before .proposer-at .ensures)) (t₃ .if3 .left) in
-    let s = t₁ .before .before .before .before in
-    let h = failed (c .before .is-current .ensures ∙ ap (λ (p : Proposer). isCurrent p (s .args .number)) (t₃ .before .before .proposer-at .ensures)) (c .if4 .taken) in
-    (simp (e, f, g), simp (e, f, g, h))
+    let a = t₁ .before .before .before .before .args in
+    acknowledged-late (a .acceptors) (a .scans) (a .kept .now) (a .acceptor) (a .number) (passed (t₁ .before .is-proposer .ensures) (t₁ .if1 .left)) (passed (t₂ .before .is-answer .ensures) (t₂ .if2 .left)) (t₃ .before .before .proposer-at .ensures) (not-false _ (t₃ .if3 .left)) (failed (c .before .is-current .ensures) (c .if4 .taken))
 
 cast-t18 : tie.Need-cast-t18
 cast-t18 c =
@@ -91,18 +79,13 @@ same-length-5 : tie.Need-same-length-5
 same-length-5 c = search needs
 
 returns-5 : tie.Need-returns-5
-unfolding acknowledgedNo acknowledgedRecord
 returns-5 c =
     let t₄ = c .before .before .before .before .before in
     let t₃ = t₄ .before .before in
     let t₂ = t₃ .before .before .before .before in
     let t₁ = t₂ .before .before in
-    let e = passed (t₁ .before .is-proposer .ensures) (t₁ .if1 .left) in
-    let f = passed (t₂ .before .is-answer .ensures) (t₂ .if2 .left) in
-    let g = passed (ap (λ (p : Proposer). p .alive) (t₃ .before .before .proposer-at .ensures)) (t₃ .if3 .left) in
-    let s = t₁ .before .before .before .before in
-    let h = passed (t₄ .before .is-current .ensures ∙ ap (λ (p : Proposer). isCurrent p (s .args .number)) (t₃ .before .before .proposer-at .ensures)) (t₄ .if4 .left) in
-    (simp (e, f, g), simp (e, f, g, h) (c .before .before .put-proposer .ensures ∙ proposer-whole (s .args .acceptors) (s .args .scans) (s .args .kept .now) _ e ∙ simp (c .before .before .before .acknowledge .ensures, t₃ .before .before .proposer-at .ensures)))
+    let a = t₁ .before .before .before .before .args in
+    acknowledged-taken (a .acceptors) (a .scans) (a .kept .now) (a .acceptor) (a .number) (passed (t₁ .before .is-proposer .ensures) (t₁ .if1 .left)) (passed (t₂ .before .is-answer .ensures) (t₂ .if2 .left)) (t₃ .before .before .proposer-at .ensures) (not-false _ (t₃ .if3 .left)) (passed (t₄ .before .is-current .ensures) (t₄ .if4 .left)) (c .before .before .before .acknowledge .ensures) (c .before .before .put-proposer .ensures)
 
 pub ymd-acknowledged-spec : {M : Type 1} → statement M
 ymd-acknowledged-spec =

@@ -1,9 +1,7 @@
 -- `ymd_run_text` meets its contract. Assumes nothing.
-use mathlib.Core.Path.{_≡_}
-use denote.Ref.{now}
-use Rattle.numbers.specs.declared.Written.the-variants as written
-use Rattle.printer.specs.Text.{putAnswer}
-use Rattle.printer.specs.Printing.{text}
+use mathlib.Core.Path.{sym, ap, _∙_}
+use Rattle.numbers.specs.Coding.{writtenNo, writtenNext}
+use Rattle.numbers.specs.declared.Written.{Written}
 use borrow.Author.Needs.{needs}
 use Rattle.yazhmandu.proofs.text_call.ymd_run_text.Statement.{statement}
 use Rattle.yazhmandu.proofs.text_call.ymd_run_text.Tie as tie
@@ -23,9 +21,9 @@ same-length c = search needs
 returns : tie.Need-returns
 returns c =
     let a = c .before .before .before .before .before .before .before .before .before .args in
-    let g = c .before .printed .given .0 in
-    let e : putAnswer (text (now (a .bytes))) (now (a .output)) ≡ written.Next (g .0) = cc in
-    (simp e, cc, simp e)
+    let w = c .before .before .before .before .before .print .ensures in
+    let e = sym (c .before .printed .given .1) ∙ w .0 in
+    (ap writtenNo e, w .1, ap (λ (x : Written). writtenNext x (a .length .now)) e)
 
 same-length-2 : tie.Need-same-length-2
 same-length-2 c = search needs
@@ -33,9 +31,9 @@ same-length-2 c = search needs
 returns-2 : tie.Need-returns-2
 returns-2 c =
     let a = c .before .before .before .before .before .before .before .before .before .args in
-    let g = c .before .printed2 .given .0 in
-    let e : putAnswer (text (now (a .bytes))) (now (a .output)) ≡ written.Refused (g .0) = cc in
-    (simp e, cc, simp e)
+    let w = c .before .before .before .before .before .print .ensures in
+    let e = sym (c .before .printed2 .given .1) ∙ w .0 in
+    (ap writtenNo e, w .1, ap (λ (x : Written). writtenNext x (a .length .now)) e)
 
 pub ymd-run-text-spec : {M : Type 1} → statement M
 ymd-run-text-spec =

@@ -64,11 +64,11 @@ returns c =
     let a = t₁ .before .before .before .before .before .args in
     let b = a .bytes .now in
     sym (
-      row-step tagNo (shelfNo ∷ deviceNo ∷ timeNo ∷ []) b (place.Next (a .at)) (t₁ .before .before .before .read-from .ensures) (t₁ .before .before .value-of .ensures) (t₁ .before .tag-no .ensures) (t₁ .tested .ensures)
-      ∙ row-step shelfNo (deviceNo ∷ timeNo ∷ []) b (t₁ .tested .result) (t₂ .before .before .before .read-from2 .ensures) (t₂ .before .before .value-of2 .ensures) (t₂ .before .shelf-no .ensures) (t₂ .tested2 .ensures)
-      ∙ row-step deviceNo (timeNo ∷ []) b (t₂ .tested2 .result) (t₃ .before .before .before .read-from3 .ensures) (t₃ .before .before .value-of3 .ensures) (t₃ .before .device-no .ensures) (t₃ .tested3 .ensures)
-      ∙ row-step timeNo [] b (t₃ .tested3 .result) (c .before .before .before .read-from4 .ensures) (c .before .before .value-of4 .ensures) (c .before .time-no .ensures) (c .tested4 .ensures)
-      ∙ place-none b (c .tested4 .result)
+    row-step tagNo (shelfNo ∷ deviceNo ∷ timeNo ∷ []) b (place.Next (a .at)) (t₁ .before .before .before .read-from .ensures) (t₁ .before .before .value-of .ensures) (t₁ .before .tag-no .ensures) (t₁ .tested .ensures)
+    ∙ row-step shelfNo (deviceNo ∷ timeNo ∷ []) b (t₁ .tested .result) (t₂ .before .before .before .read-from2 .ensures) (t₂ .before .before .value-of2 .ensures) (t₂ .before .shelf-no .ensures) (t₂ .tested2 .ensures)
+    ∙ row-step deviceNo (timeNo ∷ []) b (t₂ .tested2 .result) (t₃ .before .before .before .read-from3 .ensures) (t₃ .before .before .value-of3 .ensures) (t₃ .before .device-no .ensures) (t₃ .tested3 .ensures)
+    ∙ row-step timeNo [] b (t₃ .tested3 .result) (c .before .before .before .read-from4 .ensures) (c .before .before .value-of4 .ensures) (c .before .time-no .ensures) (c .tested4 .ensures)
+    ∙ place-none b (c .tested4 .result)
     )
 
 pub check-scan-spec : {M : Type 1} → statement M

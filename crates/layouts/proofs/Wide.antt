@@ -30,7 +30,7 @@ module _ (p a s : ℕ) where
   narrowed-range : sizesInRange narrowed ≡ sizesInRange (sizesOf p a s)
   unfolding sizesInRange scansInRange mostScans mostAcceptors
   narrowed-range =
-      rw (between-min 1 8 p 65_535 (omega arith) (omega arith), between-min 1 7 a 65_535 (omega arith) (omega arith), between-min 1 64 s 65_535 (omega arith) (omega arith))
+      rw (between-min 1 8 p 65_535 (omega arith) (omega arith), between-min 1 mostAcceptors a 65_535 (omega arith) (omega arith), between-min 1 mostScans s 65_535 (omega arith) (omega arith))
 
   -- a test of the narrowed sizes is one of the sizes
   pub sizes-tested : {z : Sizes} {t : Bool} → z ≡ narrowed → t ≡ sizesInRange z → t ≡ sizesInRange (sizesOf p a s)

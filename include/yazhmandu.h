@@ -112,6 +112,18 @@ extern "C" {
  * that begins again proposes under numbers that it has used: learners then hear
  * two sets under one number and learn sets that are not comparable.
  *
+ * Of servers that keep to this it is proved, whatever the network loses, copies,
+ * delays or reorders and whenever they are killed (docs/STATEMENTS.md, `stores`):
+ * of any two sets learnt or decided one contains the other; what a learner has
+ * learnt never shrinks; each such set holds only scans that a ymd_buffer took
+ * and, if it is not empty, a majority of the acceptors acknowledged it; and a
+ * tag that ymd_where_is finds by the smaller set it finds by the larger one, at
+ * a time no earlier. The conditions: records begin as above and are changed by
+ * these calls alone, always with the run's own sizes; a call is given only what
+ * another call's result said to send to that party; an acceptor knows its own
+ * number. What a learner heard may be lost (its first 9 bytes, then zeros);
+ * what it learnt may not.
+ *
  * The section PROTOCOL of yazhmandu(3) has the messages: who sends which, when,
  * and what may be sent again.
  */

@@ -1,49 +1,102 @@
-"""The walk of `step`: crates/machine/proofs/step/step/Proof.antt. It follows the calls of src/step.rt in their order.
+"""The walk of `step`: crates/machine/proofs/step/step/Proof.antt. The message is loaded, the arm that takes the event is found, and each branch lends its slices to its arm and returns.
 
 Run it at the project's root: python3 tools/machine_walks/step.py
 """
-from walk import CRATE, RECORDS, Function, Walk, slice_of, value
+import copy
+
+import walk
+from walk import EVENTS, FIELDS, LENT, RECORDS, Function, Walk, entry, fields_of, listed, tupled, value
+
+walk.KIT = walk.KIT.replace('use types.Run.{look,', 'use types.Run.{branches, skips, returns-within, look,').replace('use lib.Dec.{T as Holds, ltb,', 'use mathlib.Core.Bool.{not}\nuse lib.Dec.{T as Holds, eqb, ltb,')
+
+
+class Dispatcher(Walk):
+    """A straight line, and then `if n == 3 { return f(..); }`, and so on, with a call at the end."""
+
+    def start_arms(self, number, tested):
+        """The line ends here. `number` is the local that is tested, by the local `tested`."""
+        self.cut()
+        self.number, self.tested, self.arms = number, tested, []
+
+    def arm(self, k, borrows, f, args, left, need, ends):
+        """Where the number is k, or at the end (None): the slices that are lent, the call, what it returns and leaves, and the state that the end has, with its proof."""
+        a = copy.deepcopy(self)
+        a.lines, a.closes = [], 0
+        if k is not None:
+            a.value[self.tested] = '_'
+        for s, r in borrows:
+            a.borrow(s, r, r + 1)
+        a.hands(f, args, 0, 'Answer', left[0], left[1:], need)
+        g, back = self.f, []
+        for i in range(len(g.slices)):
+            at = a.order.index(i)
+            back += [2 * at, 2 * at + 1]
+        a.say('%s (look ! %d refl) $ ' % ('returns !' if k is None else 'returns-within ! Post refl', g.place(0)) + ' '.join('forget ! %d refl $' % g.place(i) for i in range(g.count - 1, -1, -1) if i in a.value))
+        a.say(' '.join('move ! (%d ∷ %d ∷ []) $ free1 ! $' % (g.place(i), g.place(i) + 1) for i in range(g.count)) + ' free0 ! $')
+        a.say('keep ! %s $ by ! (exits %s g0 %s)' % (listed(back), ends, ' '.join(a.same)) + ')' * a.closes)
+        if f not in self.called:
+            self.called.append(f)
+        self.arms.append((k, a.lines))
+
+    def write(self):
+        self.known[0] = ('Answer', '(r .answer)', 'g0')
+        Walk.write(self)
+
+    def middle(self, known, locations, lifetimes, shares, given):
+        context, learnt, at = self.start
+        names, texts = [(g, t) for g, t, proof in learnt], []
+        for j, (k, lines) in enumerate(self.arms):
+            here, body = at + 2 * j, []
+            if k is None:
+                body = lines
+            else:
+                body.append('assigns ! (bin ! (reads ! (from ! (stop !)) (look ! %d refl)) (lit ! tt) tt) (from ! (stop !)) (init ! %d refl (tt, tt)) $' % (self.f.place(self.number), self.f.place(self.tested)))
+                body.append('first ! $ branches ! (reads ! (from ! (stop !)) (look ! %d refl))' % self.f.place(self.tested))
+                body.append('(λ holds.')
+                body += lines
+                body[-1] += ')'
+                body.append('(λ fails. skips ! $ exec ! C Λ En pieces.t-%d (atRet En Post) $ forget ! %d refl $ arm-%d %s fails)' % (here + 2, self.f.place(self.tested), j + 2, ' '.join(g for g, t in names)))
+            texts.append(('      arm-%d : ' % (j + 1) + ''.join('(%s : %s) → ' % x for x in names) + 'Sq W (%s) (runs C Λ En pieces.t-%d (atRet En Post))\n' % (context, here)
+                          + ('      arm-%d ' % (j + 1) + ' '.join(g for g, t in names)).rstrip() + ' =\n' + ''.join('          ' + l.rstrip() + '\n' for l in body) + '\n'))
+            if k is not None:
+                names = names + [('not-%d' % k, 'Holds (not (eqb %s %d))' % (self.known[self.number][1], k))]
+        out = ''.join(reversed(texts))
+        # the line before them
+        lines, closes, (ctx, given0, at0) = self.parts[1]
+        body = list(lines) + ['arm-1 ' + ' '.join(proof for g, t, proof in learnt) + ')' * closes]
+        out += '      part-1 : Sq W (%s) (runs C Λ En pieces.t-%d (atRet En Post))\n      part-1 =\n' % (ctx, at0) + ''.join('          ' + l.rstrip() + '\n' for l in body) + '\n'
+        return out + entry(self.f, lifetimes, shares, given, locations, ['part-1 ' + locations])
+
 
 six = 'z e ps acs ls t'
+
+
+def at(lists):
+    return 'stepAt z e k m %s t' % lists
+
+
 f = Function(
     'step', 'step',
-    comment='''-- `step` meets its contract: a walk of its MIR. Each call is one step: by value, or on one of the four slices, which is lent and comes back. There is no branch. tools/machine_walks/step.py writes this file.
+    comment='''-- `step` meets its contract: a walk of its MIR. The message is loaded, the arm that takes the event is found, and each branch lends its slices to its arm, returns, and shows the whole contract. tools/machine_walks/step.py writes this file.
 -- Assumes nothing.
 ''',
-    structs=RECORDS + [
-        ('Event', 'Ev', 'Rattle.model.proofs.Event', 'Rattle.model.specs.declared.Event'),
-        ('Send', 'Sd', 'Rattle.decisions.proofs.sending.Send', 'Rattle.decisions.specs.declared.sending.Send'),
-        ('Decision', 'Dn', CRATE + '.step.Decision', 'Rattle.machine.specs.declared.step.Decision'),
-        ('Answer', 'An', 'Rattle.model.proofs.Answer', 'Rattle.model.specs.declared.Answer'),
-    ],
-    enums=['Answer'],
-    params=[value('Sizes', 'z'), slice_of('Proposer', 'ps'), slice_of('Acceptor', 'acs'), slice_of('Learner', 'ls'), slice_of('Message', 't'), value('Event', 'e')],
-    locals=['usize', 'Message', 'u64', 'usize', 'usize', 'usize', 'Proposer', 'Acceptor', 'Learner', 'Decision', 'u8', 'u8', 'Decision', 'Proposer', 'Acceptor', 'Learner', 'Message', 'Send']
-    + [(s, 'imm') for s in ['Message', 'Proposer', 'Acceptor', 'Learner', 'Message']] + ['unit']
-    + [(s, 'mut') for s in ['Proposer', 'Acceptor', 'Learner', 'Message', 'Message']],
-    temporaries=25,
-    result=('Answer', 'r₀'),
+    structs=RECORDS + EVENTS, enums=['Answer'],
+    params=[value('Sizes', 'z')] + LENT + [value('Event', 'e')],
+    locals=['usize', 'Message', 'u8', ('Message', 'imm'), 'bool'] + [(s, 'mut') for s in ['Learner', 'Message', 'Proposer', 'Message', 'Acceptor', 'Message', 'Proposer', 'Message', 'Message']],
+    temporaries=10,
+    result=('Answer', '(r .answer)'),
     requires=('fit', 'Fits', ['z', 'ps', 'acs', 'ls', 't']),
-    after=['ps′', 'acs′', 'ls′', 't′'],
-    says='(refl, (refl, (refl, (refl, refl))))',
+    after=fields_of('r'),
+    ending=('(r : Left) → r ≡ stepOf %s → ' % six, 'r same'),
+    says=tupled(['ap (λ (w : Left). w .%s) same' % x for x in ['answer'] + FIELDS]),
     definitions=[
-        ('k', 'ℕ', 'within (e .a) (z .slots)'), ('m', 'Message', 'theMessage ' + six), ('i', 'ℕ', 'partyOf e m'),
-        ('pi', 'ℕ', 'within i (z .proposers)'), ('ai', 'ℕ', 'within i (z .acceptors)'), ('li', 'ℕ', 'within i (z .learners)'),
-        ('q', 'Proposer', 'theProposer ' + six), ('c', 'Acceptor', 'theAcceptor ' + six), ('l', 'Learner', 'theLearner ' + six),
-        ('d', 'Decision', 'theDecision ' + six), ('f', 'Decision', 'finished ' + six),
-        ('l′', 'Learner', 'learnerAfter z (f .change .hears) (f .change .stops) m l'), ('m′', 'Message', 'slotAfter (f .change .frees) m'), ('r₀', 'Answer', 'replyOf z e f m l'),
-        ('ps′', 'List Proposer', 'set ps pi (f .change .proposer)'), ('acs′', 'List Acceptor', 'set acs ai (f .change .acceptor)'), ('ls′', 'List Learner', 'set ls li l′'),
-        ('t₁', 'List Message', 'set t k m′'), ('t′', 'List Message', 'post (itemsOf (f .change .send)) t₁')],
-    facts=[
-        ('in-k', 'k < length t', 'slot-there z ps acs ls t fit (e .a)'), ('in-p', 'pi < length ps', 'proposer-there z ps acs ls t fit i'),
-        ('in-a', 'ai < length acs', 'acceptor-there z ps acs ls t fit i'), ('in-l', 'li < length ls', 'learner-there z ps acs ls t fit i'),
-        ('ready', 'Ready (f .change .send) t₁', 'ready-after %s in-k' % six)],
-    uses=('''use Rattle.model.specs.Table.{post}
-use Rattle.decisions.specs.Sending.{itemsOf, lacking}
-use Rattle.machine.specs.Slots.{Ready}
-use Rattle.decisions.specs.Change.{learnerAfter, slotAfter}
-use Rattle.machine.specs.Stepping.{within, partyOf, replyOf, theMessage, theProposer, theAcceptor, theLearner, theDecision, finished, Fits}
-''', '''use Rattle.machine.proofs.Readiness.{proposer-there, acceptor-there, learner-there, slot-there, ready-after}
+        ('k', 'ℕ', 'within (e .a) (z .slots)'), ('m', 'Message', 'theMessage ' + six), ('n', 'ℕ', 'armOf e m'),
+        ('byLearner', 'Left', at('[] [] ls')), ('byProposer', 'Left', at('ps [] []')), ('byAcceptor', 'Left', at('[] acs []')), ('byTable', 'Left', at('[] [] []'))],
+    facts=[('in-k', 'k < length t', 'slot-there z ps acs ls t fit (e .a)')],
+    uses=('''use Rattle.machine.specs.Stepping.{within, theMessage, Left, stepOf, Fits}
+use Rattle.machine.specs.Roles.{armOf, stepAt}
+''', '''use Rattle.machine.proofs.Readiness.{slot-there}
+use Rattle.machine.proofs.Roles.{leaves, by-learner, by-told, by-acceptor, by-proposer, by-table, table-left}
 '''))
 
 
@@ -51,43 +104,21 @@ def step(g):
     return ('step', g)
 
 
-def lent(g):
-    return ('lent', g)
-
-
-w = Walk(f)
+there = '(fit .0, (in-k, refl))'
+eight = 'z e k m ps acs ls t'
+w = Dispatcher(f)
 w.call(step('slot_at'), [1, 6], 7, 'usize', 'k')
-w.shared(lent('load_message'), 3, 25, 26, [7], 8, 'Message', 'm', 'in-k')
-w.call(step('party_of'), [6, 8], 9, 'u64', 'i')
-w.cut()
-w.call(step('proposer_at'), [1, 9], 10, 'usize', 'pi')
-w.call(step('acceptor_at'), [1, 9], 11, 'usize', 'ai')
-w.call(step('learner_at'), [1, 9], 12, 'usize', 'li')
-w.cut()
-w.shared(lent('load_proposer'), 0, 27, 28, [10], 13, 'Proposer', 'q', 'in-p')
-w.shared(lent('load_acceptor'), 1, 29, 30, [11], 14, 'Acceptor', 'c', 'in-a')
-w.cut()
-w.shared(lent('load_learner'), 2, 31, 32, [12], 15, 'Learner', 'l', 'in-l')
-w.call(step('decide'), [1, 6, 8, 13, 14, 15], 16, 'Decision', 'd', '(fit .0)')
-w.cut()
-w.call(step('need_in'), [16], 17, 'u8', '(d .need)')
-w.shared(lent('room'), 3, 33, 34, [17], 18, 'u8', '(lacking (d .need) t)')
-w.cut()
-w.call(step('finish'), [16, 18, 13, 14], 19, 'Decision', 'f')
-w.call(step('proposer_in'), [19], 20, 'Proposer', '(f .change .proposer)')
-w.lent(lent('store_proposer'), 0, 36, 37, [10, 20], 35, 'ps′', 'in-p')
-w.cut()
-w.call(step('acceptor_in'), [19], 21, 'Acceptor', '(f .change .acceptor)')
-w.lent(lent('store_acceptor'), 1, 38, 39, [11, 21], 35, 'acs′', 'in-a')
-w.cut()
-w.call(step('learner_in'), [1, 19, 8, 15], 22, 'Learner', 'l′')
-w.lent(lent('store_learner'), 2, 40, 41, [12, 22], 35, 'ls′', 'in-l')
-w.cut()
-w.call(step('slot_in'), [19, 8], 23, 'Message', 'm′')
-w.lent(lent('store_message'), 3, 42, 43, [7, 23], 35, 't₁', 'in-k')
-w.cut()
-w.call(step('send_in'), [19], 24, 'Send', '(f .change .send)')
-w.lent(lent('send_all'), 3, 44, 45, [24], 35, 't′', 'ready')
-w.cut()
-w.call(step('reply'), [1, 6, 19, 8, 15], 0, 'Answer', 'r₀')
+w.shared(('lent', 'load_message'), 3, 10, 11, [7], 8, 'Message', 'm', 'in-k')
+w.call(step('arm_of'), [6, 8], 9, 'u8', 'n')
+w.start_arms(9, 12)
+w.arm(3, [(2, 13), (3, 15)], step('step_learner'), [1, 14, 16, 6, 7, 8], ['(byLearner .answer)', '(byLearner .learners)', '(byLearner .slots)'], '(holds, (fit .1 .1 .1 .0, %s))' % there,
+      '(leaves (byLearner .answer) ps acs (byLearner .learners) (byLearner .slots)) (by-learner %s holds)' % eight)
+w.arm(4, [(0, 17), (3, 19)], step('step_told'), [1, 18, 20, 6, 7, 8], ['(byProposer .answer)', '(byProposer .proposers)', '(byProposer .slots)'], '(holds, (fit .1 .0, %s))' % there,
+      '(leaves (byProposer .answer) (byProposer .proposers) acs ls (byProposer .slots)) (by-told %s holds)' % eight)
+w.arm(2, [(1, 21), (3, 23)], step('step_acceptor'), [1, 22, 24, 6, 7, 8], ['(byAcceptor .answer)', '(byAcceptor .acceptors)', '(byAcceptor .slots)'], '(holds, (fit .1 .1 .0, %s))' % there,
+      '(leaves (byAcceptor .answer) ps (byAcceptor .acceptors) ls (byAcceptor .slots)) (by-acceptor %s holds)' % eight)
+w.arm(1, [(0, 25), (3, 27)], step('step_proposer'), [1, 26, 28, 6, 7, 8], ['(byProposer .answer)', '(byProposer .proposers)', '(byProposer .slots)'], '(holds, (fit .1 .0, %s))' % there,
+      '(leaves (byProposer .answer) (byProposer .proposers) acs ls (byProposer .slots)) (by-proposer %s holds)' % eight)
+w.arm(None, [(3, 29)], step('step_table'), [1, 30, 6, 7, 8], ['(byTable .answer)', '(byTable .slots)'], '(table-left e m not-3 not-4 not-2 not-1, %s)' % there,
+      '(leaves (byTable .answer) ps acs ls (byTable .slots)) (by-table %s (table-left e m not-3 not-4 not-2 not-1))' % eight)
 w.write()

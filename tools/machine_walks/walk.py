@@ -512,13 +512,13 @@ def exits(f, binds):
             back.append('move ! (%d ∷ 0 ∷ []) $ fjoin ! $' % left)
             left -= 1
     stored = [k for k in range(n) if not f.shared[k]]
-    return '''  exits : {of}{rel}{lens} → ent 𝓤 (⋆ 𝓤 H A ({ends})) (Post {val})
+    return '''  exits : {of}{rel}{lens}ent 𝓤 (⋆ 𝓤 H A ({ends})) (Post {val})
   exits {names} =
       qed W ({ends}) ∵
       suffices ! _ (ends-at 𝓤 H A this.ended stayed (this.clauses 𝓤 H A mem run) W {binds} {val} {r} {last} {same}) $ says ! {says} $
       {steps}
       {back} frame ! $ {result} $ done !
-'''.format(of=f.ending[0], names=' '.join(([f.ending[1]] if f.ending[1] else []) + ([] if t == 'unit' else ['is']) + ['e' + sub(k) for k in stored]), rel='' if t == 'unit' else f.relation(t, r) + ' → ', lens=' → '.join('length %s ≡ n%s' % (f.after[k], sub(k)) for k in stored), ends=ends, val=f.value_of(t, r), binds=binds, r=r,
+'''.format(of=f.ending[0], names=' '.join(([f.ending[1]] if f.ending[1] else []) + ([] if t == 'unit' else ['is']) + ['e' + sub(k) for k in stored]), rel='' if t == 'unit' else f.relation(t, r) + ' → ', lens=''.join('length %s ≡ n%s → ' % (f.after[k], sub(k)) for k in stored), ends=ends, val=f.value_of(t, r), binds=binds, r=r,
            last=tuple_of(in_order(f, lambda j, t, x: 'tt', lambda j, t, x, k: 'tt' if f.shared[k] else f.after[k])),
            same=tuple_of(in_order(f, lambda j, t, x: 'tt', lambda j, t, x, k: 'tt' if f.shared[k] else 'e' + sub(k))),
            says=f.says, steps=' '.join(steps), back=' '.join(back).replace(' \n', '\n'), result='feqI ! (List Val) (vunit ∷ []) (vunit ∷ []) refl' if t == 'unit' else f.owned(t, r, 'is'))
@@ -532,7 +532,7 @@ def parts(f, w):
         back += [2 * i, 2 * i + 1]
     tail = ['returns ! (look ! %d refl) $ ' % f.place(0) + ' '.join('forget ! %d refl $' % f.place(k) for k in range(f.count - 1, -1, -1) if k in w.value),
             ' '.join('move ! (%d ∷ %d ∷ []) $ free1 ! $' % (f.place(k), f.place(k) + 1) for k in range(f.count)) + ' free0 ! $',
-            'keep ! %s $ by ! (exits %s %s)' % (listed(back), w.known[0][2], ' '.join(w.same[k] for k in range(len(f.slices)) if not f.shared[k]))]
+            'keep ! %s $ by ! (exits %s)' % (listed(back), ' '.join([w.known[0][2]] + [w.same[k] for k in range(len(f.slices)) if not f.shared[k]]))]
     out = ''
     for j in range(len(w.parts) - 1, 0, -1):
         lines, closes, (context, given, at) = w.parts[j]

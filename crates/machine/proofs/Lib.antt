@@ -20,3 +20,9 @@ pub mod Storing
 pub mod Testing
 pub mod WalkedLoops
 pub mod Unchanged
+pub mod Roles
+pub mod Ears
+pub mod Arms
+pub mod Parts
+pub mod Heards
+pub mod Counting

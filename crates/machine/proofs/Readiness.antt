@@ -25,7 +25,7 @@ use Rattle.sizes.proofs.SizeLaws.{bounds}
 use Rattle.decisions.proofs.Sendable.{Sendable, silent, sendable}
 use Rattle.machine.specs.declared.step.Decision.{Decision}
 use Rattle.machine.specs.Slots.{Ready}
-use Rattle.machine.specs.Stepping.{within, needOf, decideOf, refusedOf, finishOf, theMessage, theProposer, theAcceptor, theLearner, theDecision, finished, Fits}
+use Rattle.machine.specs.Stepping.{within, needOf, decideOf, refusedOf, finishOf, Fits}
 
 -- ---- the records that an event finds are there
 
@@ -82,7 +82,7 @@ room-by false c k t i tk h = ap (lacking c) (same freeSlot t k) ∙ h
 
 -- ---- what is decided can be sent
 
-abbrev After : (t : List Message) (k : ℕ) → Change → Type 0
+abbrev pub After : (t : List Message) (k : ℕ) → Change → Type 0
 After t k d = Ready (d .send) (set t k (slotAfter (d .frees) (getD t k freeSlot)))
 
 none-lacking : (f : ℕ) → 0 - f ≡ 0
@@ -116,9 +116,10 @@ decided-ready z e t k q c l i o h =
     d : Change
     d = changeOf z (e .a) (e .b) m q c (codeOf (e .code))
 
-pub ready-after : (z : Sizes) (e : Event) (ps : List Proposer) (acs : List Acceptor) (ls : List Learner) (t : List Message) → within (e .a) (z .slots) < length t
-    → Ready (finished z e ps acs ls t .change .send) (set t (within (e .a) (z .slots)) (slotAfter (finished z e ps acs ls t .change .frees) (theMessage z e ps acs ls t)))
+pub ready-after : (z : Sizes) (e : Event) (t : List Message) (k : ℕ) (q : Proposer) (c : Acceptor) (l : Learner) → k < length t
+    → After t k (finishOf (decideOf z e (getD t k freeSlot) q c l) (lacking (decideOf z e (getD t k freeSlot) q c l .need) t) q c .change)
 unfolding finishOf
-ready-after z e ps acs ls t i =
-    finish-by (eqb (theDecision z e ps acs ls t .no) 0) (eqb (lacking (theDecision z e ps acs ls t .need) t) 0) t (within (e .a) (z .slots)) (theDecision z e ps acs ls t) (theProposer z e ps acs ls t) (theAcceptor z e ps acs ls t)
-    (λ o h. decided-ready z e t (within (e .a) (z .slots)) (theProposer z e ps acs ls t) (theAcceptor z e ps acs ls t) (theLearner z e ps acs ls t) i (eqb→eq (theDecision z e ps acs ls t .no) 0 o) (eqb→eq (lacking (theDecision z e ps acs ls t .need) t) 0 h))
+ready-after z e t k q c l i = finish-by (eqb (d .no) 0) (eqb (lacking (d .need) t) 0) t k d q c (λ o h. decided-ready z e t k q c l i (eqb→eq (d .no) 0 o) (eqb→eq (lacking (d .need) t) 0 h))
+  where
+    d : Decision
+    d = decideOf z e (getD t k freeSlot) q c l

@@ -1,5 +1,6 @@
 pub mod Slots
 pub mod Stepping
+pub mod Roles
 pub mod Running
 pub mod Calls
 pub mod Histories

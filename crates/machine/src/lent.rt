@@ -2,21 +2,97 @@
 ghost use mathlib.Core.Path.{_≡_};
 ghost use mathlib.Core.List.{_++_};
 ghost use Prim.Native.Nat.{_<_, _≤_};
+ghost use lib.Dec.{ltb};
 ghost use lib.ListN.{length, getD, set, drop, replicate};
-ghost use Rattle.model.specs.Records.{freshProposer, freshAcceptor, freshLearner, freeSlot};
+ghost use Rattle.choice.specs.Choice.{if_then_else_};
+ghost use Rattle.model.specs.Records.{freshProposer, freshAcceptor, freshLearner, freeSlot, unheard};
 ghost use Rattle.model.specs.Ranges.{all, proposerInRange, acceptorInRange, learnerInRange, messageInRange};
 ghost use Rattle.model.specs.Table.{post};
 ghost use Rattle.decisions.specs.Sending.{isTaken, itemsOf, lacking};
+ghost use Rattle.machine.specs.Roles.{placeOf, earOf, putEar};
 ghost use Rattle.machine.specs.Slots.{leftAfter, searching, lowestFrom, FreeFrom, Ready};
 use crate::sending::count_of;
 use crate::sending::item;
 use choice::both;
 use decisions::sending::Send;
 use model::Acceptor;
+use model::Heard;
 use model::Learner;
 use model::Message;
 use model::Proposer;
+use sets::ProposerId;
+use sets::scans::Scans;
 use sizes::Sizes;
+
+// What a learner has of itself and of one proposer.
+pub struct Ear {
+    pub alive: bool,
+    pub learnt: Scans,
+    pub heard: Heard,
+}
+
+// The place of a proposer among those that a learner has heard of; 0 of one past them.
+fn place_of(p: ProposerId) -> usize
+    ensures { λ r. ⌜ r ≡ placeOf (p .0) ⌝ }
+{
+    if p.0 < 8 {
+        return p.0 as usize;
+    }
+    0
+}
+
+// Of a proposer past the places nothing is heard.
+fn ear_of(p: ProposerId, alive: bool, learnt: Scans, there: Heard) -> Ear
+    ensures { λ r. ⌜ r ≡ record { alive = alive; learnt = learnt; heard = if ltb (p .0) 8 then there else unheard } ⌝ }
+{
+    if p.0 < 8 {
+        return Ear {
+            alive,
+            learnt,
+            heard: there,
+        };
+    }
+    let heard = Heard::unheard();
+    Ear {
+        alive,
+        learnt,
+        heard,
+    }
+}
+
+// And nothing is held.
+fn held_in(p: ProposerId, x: Ear, there: Heard) -> Heard
+    ensures { λ r. ⌜ r ≡ (if ltb (p .0) 8 then x .heard else there) ⌝ }
+{
+    if p.0 < 8 {
+        return x.heard;
+    }
+    there
+}
+
+// What a learner has of itself and of one proposer: the other places are not read.
+pub fn load_ear(t: &[Learner], i: usize, p: ProposerId) -> Ear
+    requires { ⌜ i < length (now t) ⌝ }
+    ensures { λ r. ⌜ r ≡ earOf (getD (now (t .entry)) i freshLearner) (p .0) ⌝ }
+{
+    let at = place_of(p);
+    let alive = t[i].alive;
+    let learnt = t[i].learnt;
+    let there = t[i].heard[at];
+    ear_of(p, alive, learnt, there)
+}
+
+pub fn store_ear(t: &mut [Learner], i: usize, p: ProposerId, x: Ear)
+    requires { ⌜ i < length (now t) ⌝ }
+    ensures { λ _. ⌜ now (t .exit) ≡ set (now (t .entry)) i (putEar (getD (now (t .entry)) i freshLearner) (p .0) x) ⌝ }
+{
+    let at = place_of(p);
+    let there = t[i].heard[at];
+    let h = held_in(p, x, there);
+    t[i].alive = x.alive;
+    t[i].learnt = x.learnt;
+    t[i].heard[at] = h;
+}
 
 pub fn load_proposer(t: &[Proposer], i: usize) -> Proposer
     requires { ⌜ i < length (now t) ⌝ }

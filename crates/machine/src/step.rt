@@ -1,24 +1,29 @@
 // One event on the records that a caller lends: fetch, decide, write back.
 ghost use mathlib.Core.Path.{_≡_};
-ghost use mathlib.Core.Bool.{true};
-ghost use Prim.Native.Nat.{_<_};
+ghost use mathlib.Core.Bool.{true, false};
+ghost use mathlib.Core.List.{[]};
+ghost use lib.Dec.{T, eqb};
+ghost use Rattle.model.specs.Records.{kindOf, roleOf, freshProposer, freshAcceptor, freshLearner};
+ghost use Rattle.model.specs.Events.{codeOf, deliver};
 ghost use Rattle.sizes.specs.Sizes.{sizesInRange};
-ghost use Rattle.decisions.specs.Change.{learnerAfter, slotAfter};
+ghost use Rattle.model.specs.declared.Answer.the-variants.{Ok};
+ghost use Rattle.decisions.specs.Change.{slotAfter};
 ghost use Rattle.machine.specs.Stepping.{within, partyOf, decideOf, needOf, finishOf, replyOf, Fits, stepOf};
+ghost use Rattle.machine.specs.Roles.{armOfKind, armOfRole, armOf, stepAt, earAt, hears, earSays, earNo, listenOf, OfTable, OfProposer, OfAcceptor, OfLearner, OfTold};
+use crate::lent::Ear;
 use crate::lent::load_acceptor;
-use crate::lent::load_learner;
+use crate::lent::load_ear;
 use crate::lent::load_message;
 use crate::lent::load_proposer;
 use crate::lent::room;
 use crate::lent::send_all;
 use crate::lent::store_acceptor;
-use crate::lent::store_learner;
+use crate::lent::store_ear;
 use crate::lent::store_message;
 use crate::lent::store_proposer;
 use decisions::decide::Change;
 use decisions::decide::answer;
 use decisions::decide::change_of;
-use decisions::decide::learner_after;
 use decisions::decide::slot_after;
 use decisions::decide::test_no;
 use decisions::decide::unchanged_of;
@@ -29,6 +34,8 @@ use model::Event;
 use model::Learner;
 use model::Message;
 use model::Proposer;
+use sets::LearnerId;
+use sets::ProposerId;
 use sizes::Sizes;
 
 // The refusal or 0, how many free slots the event asks for, and what it leaves.
@@ -36,6 +43,13 @@ pub struct Decision {
     pub no: u8,
     pub need: u8,
     pub change: Change,
+}
+
+// What an event leaves of it, whether it frees its slot, and what it answers.
+pub struct Listened {
+    pub ear: Ear,
+    pub frees: bool,
+    pub answer: Answer,
 }
 
 // ---- which records an event finds. A number that is too great finds record 0, which it leaves as it is.
@@ -85,6 +99,48 @@ fn learner_at(z: Sizes, i: u64) -> usize
     within_of(i, z.learners)
 }
 
+// ---- the arm that takes an event
+
+fn arm_of_kind(kind: u8) -> u8
+    ensures { λ r. ⌜ r ≡ armOfKind (kindOf kind) ⌝ }
+{
+    match kind {
+        1 => 4,
+        2 => 2,
+        3 => 4,
+        4 => 4,
+        5 => 3,
+        _ => 0,
+    }
+}
+
+fn arm_of_role(role: u64) -> u8
+    ensures { λ r. ⌜ r ≡ armOfRole (roleOf role) ⌝ }
+{
+    match role {
+        1 => 1,
+        2 => 2,
+        3 => 3,
+        _ => 0,
+    }
+}
+
+// The arm that takes an event: 0 the table alone, 1 an acting proposer, 2 an acceptor, 3 a learner, 4 a proposer that is told.
+fn arm_of(e: Event, m: Message) -> u8
+    ensures { λ r. ⌜ r ≡ armOf e m ⌝ }
+{
+    let code = e.code;
+    match code {
+        1 => 1,
+        2 => arm_of_kind(m.kind),
+        5 => 1,
+        6 => 1,
+        7 => 1,
+        8 => arm_of_role(e.a),
+        _ => 0,
+    }
+}
+
 // ---- what is decided
 
 // The slot that an event frees is there for what it sends.
@@ -103,11 +159,11 @@ fn need_of(no: u8, frees: bool, count: u8) -> u8
     0
 }
 
-fn decide(z: Sizes, e: Event, m: Message, q: Proposer, c: Acceptor, l: Learner) -> Decision
+fn decide(z: Sizes, e: Event, m: Message, q: Proposer, c: Acceptor) -> Decision
     requires { ⌜ sizesInRange z ≡ true ⌝ }
-    ensures { λ r. ⌜ r ≡ decideOf z e m q c l ⌝ }
+    ensures { λ r. ⌜ r ≡ decideOf z e m q c freshLearner ⌝ }
 {
-    let no = test_no(z, e, m, q, c.alive, l.alive);
+    let no = test_no(z, e, m, q, c.alive, true);
     let made = change_of(z, e, m, q, c);
     let need = need_of(no, made.frees, made.send.count);
     Decision {
@@ -115,6 +171,28 @@ fn decide(z: Sizes, e: Event, m: Message, q: Proposer, c: Acceptor, l: Learner) 
         need,
         change: made,
     }
+}
+
+// Of a proposer alone, of an acceptor alone, and of the table alone.
+fn decide_proposer(z: Sizes, e: Event, m: Message, q: Proposer) -> Decision
+    requires { ⌜ sizesInRange z ≡ true ⌝ }
+    ensures { λ r. ⌜ r ≡ decideOf z e m q freshAcceptor freshLearner ⌝ }
+{
+    decide(z, e, m, q, Acceptor::fresh())
+}
+
+fn decide_acceptor(z: Sizes, e: Event, m: Message, c: Acceptor) -> Decision
+    requires { ⌜ sizesInRange z ≡ true ⌝ }
+    ensures { λ r. ⌜ r ≡ decideOf z e m freshProposer c freshLearner ⌝ }
+{
+    decide(z, e, m, Proposer::fresh(), c)
+}
+
+fn decide_table(z: Sizes, e: Event, m: Message) -> Decision
+    requires { ⌜ sizesInRange z ≡ true ⌝ }
+    ensures { λ r. ⌜ r ≡ decideOf z e m freshProposer freshAcceptor freshLearner ⌝ }
+{
+    decide(z, e, m, Proposer::fresh(), Acceptor::fresh())
 }
 
 fn need_in(d: Decision) -> u8
@@ -145,6 +223,106 @@ fn finish(d: Decision, left: u8, q: Proposer, c: Acceptor) -> Decision
     }
 }
 
+fn finish_proposer(d: Decision, left: u8, q: Proposer) -> Decision
+    ensures { λ r. ⌜ r ≡ finishOf d left q freshAcceptor ⌝ }
+{
+    finish(d, left, q, Acceptor::fresh())
+}
+
+fn finish_acceptor(d: Decision, left: u8, c: Acceptor) -> Decision
+    ensures { λ r. ⌜ r ≡ finishOf d left freshProposer c ⌝ }
+{
+    finish(d, left, Proposer::fresh(), c)
+}
+
+fn finish_table(d: Decision, left: u8) -> Decision
+    ensures { λ r. ⌜ r ≡ finishOf d left freshProposer freshAcceptor ⌝ }
+{
+    finish(d, left, Proposer::fresh(), Acceptor::fresh())
+}
+
+// A proposer that is told asks for no room.
+fn tell(z: Sizes, e: Event, m: Message, q: Proposer) -> Decision
+    requires { ⌜ sizesInRange z ≡ true ⌝ }
+    ensures { λ r. ⌜ r ≡ finishOf (decideOf z e m q freshAcceptor freshLearner) 0 q freshAcceptor ⌝ }
+{
+    finish_proposer(decide_proposer(z, e, m, q), 0, q)
+}
+
+// A learner hears the message.
+fn hear_it(z: Sizes, m: Message, mut x: Ear) -> Listened
+    ensures { λ r. ⌜ r ≡ record { ear = earAt z m x deliver; frees = true; answer = earSays z m x deliver } ⌝ }
+{
+    let old = x.heard;
+    let new = old.hear(m);
+    let set = new.set;
+    let learns = old.teaches(m, x.learnt, z.acceptors as u32);
+    x.heard = new;
+    if learns {
+        x.learnt = set;
+        return Listened {
+            ear: x,
+            frees: true,
+            answer: Answer::Learnt {
+                learner: LearnerId(m.addressee),
+                set,
+            },
+        };
+    }
+    Listened {
+        ear: x,
+        frees: true,
+        answer: Answer::Ok,
+    }
+}
+
+fn stop_it(mut x: Ear) -> Listened
+    ensures { λ r. ⌜ r ≡ record { ear = record { alive = false; learnt = x .learnt; heard = x .heard }; frees = false; answer = Ok } ⌝ }
+{
+    x.alive = false;
+    Listened {
+        ear: x,
+        frees: false,
+        answer: Answer::Ok,
+    }
+}
+
+fn heard_by(z: Sizes, e: Event, m: Message, x: Ear) -> Listened
+    ensures { λ r. ⌜ r ≡ record { ear = earAt z m x (codeOf (e .code)); frees = hears (codeOf (e .code)); answer = earSays z m x (codeOf (e .code)) } ⌝ }
+{
+    let code = e.code;
+    match code {
+        2 => hear_it(z, m, x),
+        8 => stop_it(x),
+        _ => Listened {
+            ear: x,
+            frees: false,
+            answer: Answer::Ok,
+        },
+    }
+}
+
+fn ear_no(z: Sizes, e: Event, m: Message, alive: bool) -> u8
+    ensures { λ r. ⌜ r ≡ earNo z e m alive ⌝ }
+{
+    test_no(z, e, m, Proposer::fresh(), true, alive)
+}
+
+// What an event leaves of a learner, by the one place that it is about.
+fn listen(z: Sizes, e: Event, m: Message, x: Ear) -> Listened
+    ensures { λ r. ⌜ r ≡ listenOf z e m x ⌝ }
+{
+    let no = ear_no(z, e, m, x.alive);
+    if no == 0 {
+        return heard_by(z, e, m, x);
+    }
+    Listened {
+        ear: x,
+        frees: false,
+        answer: Answer::Refused(no),
+    }
+}
+
 // ---- what is written back
 
 fn proposer_in(f: Decision) -> Proposer
@@ -159,10 +337,28 @@ fn acceptor_in(f: Decision) -> Acceptor
     f.change.acceptor
 }
 
-fn learner_in(z: Sizes, f: Decision, m: Message, l: Learner) -> Learner
-    ensures { λ r. ⌜ r ≡ learnerAfter z (f .change .hears) (f .change .stops) m l ⌝ }
+fn ear_in(y: Listened) -> Ear
+    ensures { λ r. ⌜ r ≡ y .ear ⌝ }
 {
-    learner_after(z, f.change.hears, f.change.stops, m, l)
+    y.ear
+}
+
+fn said_in(y: Listened) -> Answer
+    ensures { λ r. ⌜ r ≡ y .answer ⌝ }
+{
+    y.answer
+}
+
+fn slot_heard(y: Listened, m: Message) -> Message
+    ensures { λ r. ⌜ r ≡ slotAfter (y .frees) m ⌝ }
+{
+    slot_after(y.frees, m)
+}
+
+fn proposer_of(m: Message) -> ProposerId
+    ensures { λ r. ⌜ r ≡ m .proposer ⌝ }
+{
+    m.proposer
 }
 
 fn slot_in(f: Decision, m: Message) -> Message
@@ -177,15 +373,131 @@ fn send_in(f: Decision) -> Send
     f.change.send
 }
 
-fn reply(z: Sizes, e: Event, f: Decision, m: Message, l: Learner) -> Answer
-    ensures { λ r. ⌜ r ≡ replyOf z e f m l ⌝ }
+fn reply(z: Sizes, e: Event, f: Decision, m: Message) -> Answer
+    ensures { λ r. ⌜ r ≡ replyOf z e f m freshLearner ⌝ }
 {
     let no = f.no;
     if no == 0 {
         let decided = f.change.proposer.decided;
-        return answer(z, e, f.change.hears, decided, m, l);
+        return answer(z, e, f.change.hears, decided, m, Learner::fresh());
     }
     Answer::Refused(no)
+}
+
+// ---- the arms: each takes its own records and the table
+
+fn step_learner(
+    z: Sizes,
+    ls: &mut [Learner],
+    t: &mut [Message],
+    e: Event,
+    k: usize,
+    m: Message,
+) -> Answer
+    requires { ⌜ OfLearner z (now ls) (now t) e k m ⌝ }
+    ensures { λ r. ⌜ (r ≡ stepAt z e k m [] [] (now (ls .entry)) (now (t .entry)) .answer) × ((now (ls .exit) ≡ stepAt z e k m [] [] (now (ls .entry)) (now (t .entry)) .learners) × (now (t .exit) ≡ stepAt z e k m [] [] (now (ls .entry)) (now (t .entry)) .slots)) ⌝ }
+{
+    let i = party_of(e, m);
+    let li = learner_at(z, i);
+    let p = proposer_of(m);
+    let x = load_ear(ls, li, p);
+    let y = listen(z, e, m, x);
+    let x2 = ear_in(y);
+    store_ear(ls, li, p, x2);
+    let m2 = slot_heard(y, m);
+    store_message(t, k, m2);
+    said_in(y)
+}
+
+fn step_told(
+    z: Sizes,
+    ps: &mut [Proposer],
+    t: &mut [Message],
+    e: Event,
+    k: usize,
+    m: Message,
+) -> Answer
+    requires { ⌜ OfTold z (now ps) (now t) e k m ⌝ }
+    ensures { λ r. ⌜ (r ≡ stepAt z e k m (now (ps .entry)) [] [] (now (t .entry)) .answer) × ((now (ps .exit) ≡ stepAt z e k m (now (ps .entry)) [] [] (now (t .entry)) .proposers) × (now (t .exit) ≡ stepAt z e k m (now (ps .entry)) [] [] (now (t .entry)) .slots)) ⌝ }
+{
+    let i = party_of(e, m);
+    let pi = proposer_at(z, i);
+    let q = load_proposer(ps, pi);
+    let f = tell(z, e, m, q);
+    let q2 = proposer_in(f);
+    store_proposer(ps, pi, q2);
+    let m2 = slot_in(f, m);
+    store_message(t, k, m2);
+    reply(z, e, f, m)
+}
+
+fn step_acceptor(
+    z: Sizes,
+    acs: &mut [Acceptor],
+    t: &mut [Message],
+    e: Event,
+    k: usize,
+    m: Message,
+) -> Answer
+    requires { ⌜ OfAcceptor z (now acs) (now t) e k m ⌝ }
+    ensures { λ r. ⌜ (r ≡ stepAt z e k m [] (now (acs .entry)) [] (now (t .entry)) .answer) × ((now (acs .exit) ≡ stepAt z e k m [] (now (acs .entry)) [] (now (t .entry)) .acceptors) × (now (t .exit) ≡ stepAt z e k m [] (now (acs .entry)) [] (now (t .entry)) .slots)) ⌝ }
+{
+    let i = party_of(e, m);
+    let ai = acceptor_at(z, i);
+    let c = load_acceptor(acs, ai);
+    let d = decide_acceptor(z, e, m, c);
+    let need = need_in(d);
+    let left = room(t, need);
+    let f = finish_acceptor(d, left, c);
+    let c2 = acceptor_in(f);
+    store_acceptor(acs, ai, c2);
+    let m2 = slot_in(f, m);
+    store_message(t, k, m2);
+    let s = send_in(f);
+    send_all(t, s);
+    reply(z, e, f, m)
+}
+
+fn step_proposer(
+    z: Sizes,
+    ps: &mut [Proposer],
+    t: &mut [Message],
+    e: Event,
+    k: usize,
+    m: Message,
+) -> Answer
+    requires { ⌜ OfProposer z (now ps) (now t) e k m ⌝ }
+    ensures { λ r. ⌜ (r ≡ stepAt z e k m (now (ps .entry)) [] [] (now (t .entry)) .answer) × ((now (ps .exit) ≡ stepAt z e k m (now (ps .entry)) [] [] (now (t .entry)) .proposers) × (now (t .exit) ≡ stepAt z e k m (now (ps .entry)) [] [] (now (t .entry)) .slots)) ⌝ }
+{
+    let i = party_of(e, m);
+    let pi = proposer_at(z, i);
+    let q = load_proposer(ps, pi);
+    let d = decide_proposer(z, e, m, q);
+    let need = need_in(d);
+    let left = room(t, need);
+    let f = finish_proposer(d, left, q);
+    let q2 = proposer_in(f);
+    store_proposer(ps, pi, q2);
+    let m2 = slot_in(f, m);
+    store_message(t, k, m2);
+    let s = send_in(f);
+    send_all(t, s);
+    reply(z, e, f, m)
+}
+
+fn step_table(z: Sizes, t: &mut [Message], e: Event, k: usize, m: Message) -> Answer
+    requires { ⌜ OfTable z (now t) e k m ⌝ }
+    ensures { λ r. ⌜ (r ≡ stepAt z e k m [] [] [] (now (t .entry)) .answer) × (now (t .exit) ≡ stepAt z e k m [] [] [] (now (t .entry)) .slots) ⌝ }
+{
+    let d = decide_table(z, e, m);
+    let need = need_in(d);
+    let left = room(t, need);
+    let f = finish_table(d, left);
+    let m2 = slot_in(f, m);
+    store_message(t, k, m2);
+    let s = send_in(f);
+    send_all(t, s);
+    reply(z, e, f, m)
 }
 
 // One event.
@@ -202,26 +514,18 @@ pub fn step(
 {
     let k = slot_at(z, e);
     let m = load_message(t, k);
-    let i = party_of(e, m);
-    let pi = proposer_at(z, i);
-    let ai = acceptor_at(z, i);
-    let li = learner_at(z, i);
-    let q = load_proposer(ps, pi);
-    let c = load_acceptor(acs, ai);
-    let l = load_learner(ls, li);
-    let d = decide(z, e, m, q, c, l);
-    let need = need_in(d);
-    let left = room(t, need);
-    let f = finish(d, left, q, c);
-    let q2 = proposer_in(f);
-    store_proposer(ps, pi, q2);
-    let c2 = acceptor_in(f);
-    store_acceptor(acs, ai, c2);
-    let l2 = learner_in(z, f, m, l);
-    store_learner(ls, li, l2);
-    let m2 = slot_in(f, m);
-    store_message(t, k, m2);
-    let s = send_in(f);
-    send_all(t, s);
-    reply(z, e, f, m, l)
+    let arm = arm_of(e, m);
+    if arm == 3 {
+        return step_learner(z, ls, t, e, k, m);
+    }
+    if arm == 4 {
+        return step_told(z, ps, t, e, k, m);
+    }
+    if arm == 2 {
+        return step_acceptor(z, acs, t, e, k, m);
+    }
+    if arm == 1 {
+        return step_proposer(z, ps, t, e, k, m);
+    }
+    step_table(z, t, e, k, m)
 }

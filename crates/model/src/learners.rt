@@ -22,7 +22,7 @@ impl Heard {
     }
 
     // A higher number than heard replaces number, set and acceptors; an equal one adds the acceptor; a lower one does nothing more.
-    fn hear(mut self, m: Message) -> Heard
+    pub fn hear(mut self, m: Message) -> Heard
         ensures { λ r. ⌜ r ≡ hearing self m ⌝ }
     {
         let acceptor = m.acceptor;
@@ -45,7 +45,7 @@ impl Heard {
     }
 
     // Whether the acknowledgement makes a learner learn the set that is then held: it is not lower, the acceptors are then a majority, and learnt is strictly contained in the set.
-    fn teaches(self, m: Message, learnt: Scans, acceptors: u32) -> bool
+    pub fn teaches(self, m: Message, learnt: Scans, acceptors: u32) -> bool
         ensures { λ r. ⌜ r ≡ teaches acceptors learnt self m ⌝ }
     {
         let new = self.hear(m);

@@ -1,0 +1,195 @@
+"""The walks of the arms of a step: crates/machine/proofs/step/step_{learner,told,acceptor,proposer,table}/Proof.antt. They follow the calls of src/step.rt in their order.
+
+Run it at the project's root: python3 tools/machine_walks/roles.py
+"""
+from walk import CRATE, RECORDS, Function, Walk, slice_of, value
+
+STRUCTS = RECORDS + [
+    ('Event', 'Ev', 'Rattle.model.proofs.Event', 'Rattle.model.specs.declared.Event'),
+    ('Send', 'Sd', 'Rattle.decisions.proofs.sending.Send', 'Rattle.decisions.specs.declared.sending.Send'),
+    ('Decision', 'Dn', CRATE + '.step.Decision', 'Rattle.machine.specs.declared.step.Decision'),
+    ('ProposerId', 'Pi', 'Rattle.sets.proofs.ProposerId', 'Rattle.sets.specs.declared.ProposerId'),
+    ('Ear', 'Ea', CRATE + '.lent.Ear', 'Rattle.machine.specs.declared.lent.Ear'),
+    ('Listened', 'Li', CRATE + '.step.Listened', 'Rattle.machine.specs.declared.step.Listened'),
+    ('Answer', 'An', 'Rattle.model.proofs.Answer', 'Rattle.model.specs.declared.Answer'),
+]
+
+
+def step(g):
+    return ('step', g)
+
+
+def lent(g):
+    return ('lent', g)
+
+
+def arm(name, role, locals, temporaries, definitions, facts, after, says, uses, result='r₀'):
+    """An arm: z, its own records, the table, e, k and m."""
+    own = [slice_of(*role)] if role else []
+    return Function(
+        'step', 'step_' + name,
+        comment='''-- `step_%s` meets its contract: a walk of its MIR. Each call is one step: by value, or on one of the slices, which is lent and comes back. There is no branch. tools/machine_walks/roles.py writes this file.
+-- Assumes nothing.
+''' % name,
+        structs=STRUCTS, enums=['Answer'],
+        params=[value('Sizes', 'z')] + own + [slice_of('Message', 't'), value('Event', 'e'), value('usize', 'k'), value('Message', 'm')],
+        locals=locals, temporaries=temporaries,
+        result=('Answer', result),
+        requires=('fit', 'Of' + name.capitalize(), ['z'] + ([role[1]] if role else []) + ['t', 'e', 'k', 'm']),
+        after=after, says=says, definitions=definitions, facts=facts, uses=uses)
+
+
+# ---- a learner, by one place
+
+f = arm('learner', ('Learner', 'ls'),
+    locals=['u64', 'usize', 'ProposerId', 'Ear', 'Listened', 'Ear', 'Message', ('Learner', 'imm'), 'unit', ('Learner', 'mut'), ('Message', 'mut')],
+    temporaries=14,
+    definitions=[
+        ('i', 'ℕ', 'partyOf e m'), ('li', 'ℕ', 'within i (z .learners)'), ('l', 'Learner', 'getD ls li freshLearner'), ('x', 'Ear', 'earOf l (m .proposer .0)'), ('y', 'Listened', 'listenOf z e m x'),
+        ('ls′', 'List Learner', 'set ls li (putEar l (m .proposer .0) (y .ear))'), ('t′', 'List Message', 'set t k (slotAfter (y .frees) m)'), ('r₀', 'Answer', 'y .answer')],
+    facts=[('in-l', 'li < length ls', 'party-there i (z .learners) (length ls) (fit .1 .0) (bounds z (fit .1 .1 .0) .some-learners)'), ('in-k', 'k < length t', 'fit .1 .1 .1 .0')],
+    after=['ls′', 't′'], says='(ear-says z e k m ls t (fit .0), (ear-left z e k m ls t (fit .0), ear-slots z e k m ls t (fit .0)))',
+    uses=('''use lib.ListN.{getD}
+use Rattle.model.specs.Records.{freshLearner}
+use Rattle.decisions.specs.Change.{slotAfter}
+use Rattle.machine.specs.Stepping.{within, partyOf}
+use Rattle.machine.specs.Roles.{earOf, putEar, listenOf, OfLearner}
+''', '''use Rattle.sizes.proofs.SizeLaws.{bounds}
+use Rattle.machine.proofs.Readiness.{within-in as party-there}
+use Rattle.machine.proofs.Ears.{ear-says, ear-left, ear-slots}
+'''))
+w = Walk(f)
+w.call(step('party_of'), [4, 6], 7, 'u64', 'i')
+w.call(step('learner_at'), [1, 7], 8, 'usize', 'li')
+w.call(step('proposer_of'), [6], 9, 'ProposerId', '(m .proposer)')
+w.cut()
+w.shared(lent('load_ear'), 0, 14, 15, [8, 9], 10, 'Ear', 'x', 'in-l')
+w.call(step('listen'), [1, 4, 6, 10], 11, 'Listened', 'y')
+w.cut()
+w.call(step('ear_in'), [11], 12, 'Ear', '(y .ear)')
+w.lent(lent('store_ear'), 0, 17, 18, [8, 9, 12], 16, 'ls′', 'in-l')
+w.cut()
+w.call(step('slot_heard'), [11, 6], 13, 'Message', '(slotAfter (y .frees) m)')
+w.lent(lent('store_message'), 1, 19, 20, [5, 13], 16, 't′', 'in-k')
+w.cut()
+w.call(step('said_in'), [11], 0, 'Answer', 'r₀')
+w.write()
+
+# ---- the others
+
+OTHERS = '''use lib.ListN.{getD}
+use Rattle.model.specs.Table.{post}
+use Rattle.decisions.specs.Sending.{itemsOf, lacking}
+use Rattle.decisions.specs.Change.{slotAfter}
+use Rattle.machine.specs.Slots.{Ready}
+use Rattle.machine.specs.Stepping.{within, partyOf, decideOf, finishOf, replyOf}
+use Rattle.machine.specs.Roles.{proposerAt, acceptorAt, decisionAt, finishedAt, stepAt, %s}
+use Rattle.model.specs.Records.{freshProposer, freshAcceptor, freshLearner}
+'''
+LAWS = '''use Rattle.sizes.proofs.SizeLaws.{bounds}
+use Rattle.machine.proofs.Readiness.{within-in as party-there}
+use Rattle.machine.proofs.Arms.{%s}
+'''
+
+
+def finished(lists):
+    six = 'z e k m %s t' % lists
+    return [('d', 'Decision', 'decisionAt ' + six), ('f', 'Decision', 'finishedAt ' + six)]
+
+
+def left(lists):
+    return [('m′', 'Message', 'slotAfter (f .change .frees) m'), ('t₁', 'List Message', 'set t k m′')]
+
+
+# a proposer that is told
+
+f = arm('told', ('Proposer', 'ps'),
+    locals=['u64', 'usize', 'Proposer', 'Decision', 'Proposer', 'Message', ('Proposer', 'imm'), 'unit', ('Proposer', 'mut'), ('Message', 'mut')],
+    temporaries=13,
+    definitions=[('i', 'ℕ', 'partyOf e m'), ('pi', 'ℕ', 'within i (z .proposers)'), ('q', 'Proposer', 'getD ps pi freshProposer'), ('f', 'Decision', 'finishOf (decideOf z e m q freshAcceptor freshLearner) 0 q freshAcceptor'),
+        ('m′', 'Message', 'slotAfter (f .change .frees) m'), ('ps′', 'List Proposer', 'set ps pi (f .change .proposer)'), ('t′', 'List Message', 'set t k m′'), ('r₀', 'Answer', 'replyOf z e f m freshLearner')],
+    facts=[('in-p', 'pi < length ps', 'party-there i (z .proposers) (length ps) (fit .1 .0) (bounds z (fit .1 .1 .0) .some-proposers)'), ('in-k', 'k < length t', 'fit .1 .1 .1 .0')],
+    after=['ps′', 't′'], says='(told-says z e k m ps t (fit .0), (told-left z e k m ps t (fit .0), told-slots z e k m ps t (fit .0)))',
+    uses=(OTHERS % 'OfTold', LAWS % 'told-says, told-left, told-slots'))
+w = Walk(f)
+w.call(step('party_of'), [4, 6], 7, 'u64', 'i')
+w.call(step('proposer_at'), [1, 7], 8, 'usize', 'pi')
+w.cut()
+w.shared(lent('load_proposer'), 0, 13, 14, [8], 9, 'Proposer', 'q', 'in-p')
+w.call(step('tell'), [1, 4, 6, 9], 10, 'Decision', 'f', '(fit .1 .1 .0)')
+w.cut()
+w.call(step('proposer_in'), [10], 11, 'Proposer', '(f .change .proposer)')
+w.lent(lent('store_proposer'), 0, 16, 17, [8, 11], 15, 'ps′', 'in-p')
+w.cut()
+w.call(step('slot_in'), [10, 6], 12, 'Message', 'm′')
+w.lent(lent('store_message'), 1, 18, 19, [5, 12], 15, 't′', 'in-k')
+w.cut()
+w.call(step('reply'), [1, 4, 10, 6], 0, 'Answer', 'r₀')
+w.write()
+
+
+# an acceptor, an acting proposer
+
+def party(name, struct, short, slice, lists, at, fresh):
+    """A party that decides and sends: its record in slice, found at the place p."""
+    own = struct.lower()
+    f = arm(name, (struct, slice),
+        locals=['u64', 'usize', struct, 'Decision', 'u8', 'u8', 'Decision', struct, 'Message', 'Send', (struct, 'imm'), ('Message', 'imm'), 'unit', (struct, 'mut'), ('Message', 'mut'), ('Message', 'mut')],
+        temporaries=17,
+        definitions=[('i', 'ℕ', 'partyOf e m'), ('p', 'ℕ', 'within i (z .%ss)' % own), (short, struct, '%s z e k m %s t' % (at, lists))] + finished(lists) + left(lists)
+        + [('own′', 'List ' + struct, 'set %s p (f .change .%s)' % (slice, own)), ('t′', 'List Message', 'post (itemsOf (f .change .send)) t₁'), ('r₀', 'Answer', 'replyOf z e f m freshLearner')],
+        facts=[('in-p', 'p < length ' + slice, 'party-there i (z .%ss) (length %s) (fit .1 .0) (bounds z (fit .1 .1 .0) .some-%ss)' % (own, slice, own)), ('in-k', 'k < length t', 'fit .1 .1 .1 .0'),
+            ('ready', 'Ready (f .change .send) t₁', 'ready-at z e k m %s t in-k (fit .1 .1 .1 .1)' % lists)],
+        after=['own′', 't′'], says='(refl, (refl, refl))',
+        uses=(OTHERS % ('Of' + name.capitalize()), LAWS % 'ready-at'))
+    w = Walk(f)
+    w.call(step('party_of'), [4, 6], 7, 'u64', 'i')
+    w.call(step(own + '_at'), [1, 7], 8, 'usize', 'p')
+    w.cut()
+    w.shared(lent('load_' + own), 0, 17, 18, [8], 9, struct, short, 'in-p')
+    w.call(step('decide_' + own), [1, 4, 6, 9], 10, 'Decision', 'd', '(fit .1 .1 .0)')
+    w.cut()
+    w.call(step('need_in'), [10], 11, 'u8', '(d .need)')
+    w.shared(lent('room'), 1, 19, 20, [11], 12, 'u8', '(lacking (d .need) t)')
+    w.cut()
+    w.call(step('finish_' + own), [10, 12, 9], 13, 'Decision', 'f')
+    w.call(step(own + '_in'), [13], 14, struct, '(f .change .%s)' % own)
+    w.lent(lent('store_' + own), 0, 22, 23, [8, 14], 21, 'own′', 'in-p')
+    w.cut()
+    w.call(step('slot_in'), [13, 6], 15, 'Message', 'm′')
+    w.lent(lent('store_message'), 1, 24, 25, [5, 15], 21, 't₁', 'in-k')
+    w.cut()
+    w.call(step('send_in'), [13], 16, 'Send', '(f .change .send)')
+    w.lent(lent('send_all'), 1, 26, 27, [16], 21, 't′', 'ready')
+    w.cut()
+    w.call(step('reply'), [1, 4, 13, 6], 0, 'Answer', 'r₀')
+    w.write()
+
+
+party('acceptor', 'Acceptor', 'c', 'acs', '[] acs []', 'acceptorAt', 'freshAcceptor')
+party('proposer', 'Proposer', 'q', 'ps', 'ps [] []', 'proposerAt', 'freshProposer')
+
+# the table alone
+
+f = arm('table', None,
+    locals=['Decision', 'u8', 'u8', 'Decision', 'Message', 'Send', ('Message', 'imm'), 'unit', ('Message', 'mut'), ('Message', 'mut')],
+    temporaries=12,
+    definitions=finished('[] [] []') + left('[] [] []') + [('t′', 'List Message', 'post (itemsOf (f .change .send)) t₁'), ('r₀', 'Answer', 'replyOf z e f m freshLearner')],
+    facts=[('in-k', 'k < length t', 'fit .1 .1 .0'), ('ready', 'Ready (f .change .send) t₁', 'ready-at z e k m [] [] [] t in-k (fit .1 .1 .1)')],
+    after=['t′'], says='(refl, refl)',
+    uses=(OTHERS % 'OfTable', LAWS % 'ready-at'))
+w = Walk(f)
+w.call(step('decide_table'), [1, 3, 5], 6, 'Decision', 'd', '(fit .1 .0)')
+w.call(step('need_in'), [6], 7, 'u8', '(d .need)')
+w.cut()
+w.shared(lent('room'), 0, 12, 13, [7], 8, 'u8', '(lacking (d .need) t)')
+w.call(step('finish_table'), [6, 8], 9, 'Decision', 'f')
+w.cut()
+w.call(step('slot_in'), [9, 5], 10, 'Message', 'm′')
+w.lent(lent('store_message'), 0, 15, 16, [4, 10], 14, 't₁', 'in-k')
+w.cut()
+w.call(step('send_in'), [9], 11, 'Send', '(f .change .send)')
+w.lent(lent('send_all'), 0, 17, 18, [11], 14, 't′', 'ready')
+w.cut()
+w.call(step('reply'), [1, 3, 9, 5], 0, 'Answer', 'r₀')
+w.write()

@@ -64,7 +64,7 @@ w.call(step('learner_at'), [1, 7], 8, 'usize', 'li')
 w.call(step('proposer_of'), [6], 9, 'ProposerId', '(m .proposer)')
 w.cut()
 w.shared(lent('load_ear'), 0, 14, 15, [8, 9], 10, 'Ear', 'x', 'in-l')
-w.call(step('listen'), [1, 4, 6, 10], 11, 'Listened', 'y')
+w.call(step('listen'), [1, 4, 6, 10], 11, 'Listened', 'y', '(fit .0)')
 w.cut()
 w.call(step('ear_in'), [11], 12, 'Ear', '(y .ear)')
 w.lent(lent('store_ear'), 0, 17, 18, [8, 9, 12], 16, 'ls′', 'in-l')
@@ -83,11 +83,12 @@ use Rattle.decisions.specs.Sending.{itemsOf, lacking}
 use Rattle.decisions.specs.Change.{slotAfter}
 use Rattle.machine.specs.Slots.{Ready}
 use Rattle.machine.specs.Stepping.{within, partyOf, decideOf, finishOf, replyOf}
-use Rattle.machine.specs.Roles.{proposerAt, acceptorAt, decisionAt, finishedAt, stepAt, %s}
+use Rattle.machine.specs.Roles.{proposerAt, acceptorAt, decisionAt, finishedAt, stepAt, armOf, %s}
 use Rattle.model.specs.Records.{freshProposer, freshAcceptor, freshLearner}
 '''
 LAWS = '''use Rattle.sizes.proofs.SizeLaws.{bounds}
 use Rattle.machine.proofs.Readiness.{within-in as party-there}
+use Rattle.machine.proofs.Roles.{not-of, quiet-finished}
 use Rattle.machine.proofs.Arms.{%s}
 '''
 
@@ -110,13 +111,13 @@ f = arm('told', ('Proposer', 'ps'),
         ('m′', 'Message', 'slotAfter (f .change .frees) m'), ('ps′', 'List Proposer', 'set ps pi (f .change .proposer)'), ('t′', 'List Message', 'set t k m′'), ('r₀', 'Answer', 'replyOf z e f m freshLearner')],
     facts=[('in-p', 'pi < length ps', 'party-there i (z .proposers) (length ps) (fit .1 .0) (bounds z (fit .1 .1 .0) .some-proposers)'), ('in-k', 'k < length t', 'fit .1 .1 .1 .0')],
     after=['ps′', 't′'], says='(told-says z e k m ps t (fit .0), (told-left z e k m ps t (fit .0), told-slots z e k m ps t (fit .0)))',
-    uses=(OTHERS % 'OfTold', LAWS % 'told-says, told-left, told-slots'))
+    uses=(OTHERS % 'OfTold', LAWS % 'told-says, told-left, told-slots, told-quiet'))
 w = Walk(f)
 w.call(step('party_of'), [4, 6], 7, 'u64', 'i')
 w.call(step('proposer_at'), [1, 7], 8, 'usize', 'pi')
 w.cut()
 w.shared(lent('load_proposer'), 0, 13, 14, [8], 9, 'Proposer', 'q', 'in-p')
-w.call(step('tell'), [1, 4, 6, 9], 10, 'Decision', 'f', '(fit .1 .1 .0)')
+w.call(step('tell'), [1, 4, 6, 9], 10, 'Decision', 'f', '(fit .0)')
 w.cut()
 w.call(step('proposer_in'), [10], 11, 'Proposer', '(f .change .proposer)')
 w.lent(lent('store_proposer'), 0, 16, 17, [8, 11], 15, 'ps′', 'in-p')
@@ -124,13 +125,13 @@ w.cut()
 w.call(step('slot_in'), [10, 6], 12, 'Message', 'm′')
 w.lent(lent('store_message'), 1, 18, 19, [5, 12], 15, 't′', 'in-k')
 w.cut()
-w.call(step('reply'), [1, 4, 10, 6], 0, 'Answer', 'r₀')
+w.call(step('reply'), [1, 4, 10, 6], 0, 'Answer', 'r₀', '(told-quiet z e k m ps t (fit .0))')
 w.write()
 
 
 # an acceptor, an acting proposer
 
-def party(name, struct, short, slice, lists, at, fresh):
+def party(name, number, struct, short, slice, lists, at):
     """A party that decides and sends: its record in slice, found at the place p."""
     own = struct.lower()
     f = arm(name, (struct, slice),
@@ -147,7 +148,7 @@ def party(name, struct, short, slice, lists, at, fresh):
     w.call(step(own + '_at'), [1, 7], 8, 'usize', 'p')
     w.cut()
     w.shared(lent('load_' + own), 0, 17, 18, [8], 9, struct, short, 'in-p')
-    w.call(step('decide_' + own), [1, 4, 6, 9], 10, 'Decision', 'd', '(fit .1 .1 .0)')
+    w.call(step('decide_' + own), [1, 4, 6, 9], 10, 'Decision', 'd', '(fit .1 .1 .0, fit .0)')
     w.cut()
     w.call(step('need_in'), [10], 11, 'u8', '(d .need)')
     w.shared(lent('room'), 1, 19, 20, [11], 12, 'u8', '(lacking (d .need) t)')
@@ -162,12 +163,12 @@ def party(name, struct, short, slice, lists, at, fresh):
     w.call(step('send_in'), [13], 16, 'Send', '(f .change .send)')
     w.lent(lent('send_all'), 1, 26, 27, [16], 21, 't′', 'ready')
     w.cut()
-    w.call(step('reply'), [1, 4, 13, 6], 0, 'Answer', 'r₀')
+    w.call(step('reply'), [1, 4, 13, 6], 0, 'Answer', 'r₀', '(quiet-finished z e k m %s t (not-of %d 3 (armOf e m) (fit .0) tt) .0)' % (lists, number))
     w.write()
 
 
-party('acceptor', 'Acceptor', 'c', 'acs', '[] acs []', 'acceptorAt', 'freshAcceptor')
-party('proposer', 'Proposer', 'q', 'ps', 'ps [] []', 'proposerAt', 'freshProposer')
+party('acceptor', 2, 'Acceptor', 'c', 'acs', '[] acs []', 'acceptorAt')
+party('proposer', 1, 'Proposer', 'q', 'ps', 'ps [] []', 'proposerAt')
 
 # the table alone
 
@@ -179,7 +180,7 @@ f = arm('table', None,
     after=['t′'], says='(refl, refl)',
     uses=(OTHERS % 'OfTable', LAWS % 'ready-at'))
 w = Walk(f)
-w.call(step('decide_table'), [1, 3, 5], 6, 'Decision', 'd', '(fit .1 .0)')
+w.call(step('decide_table'), [1, 3, 5], 6, 'Decision', 'd', '(fit .0)')
 w.call(step('need_in'), [6], 7, 'u8', '(d .need)')
 w.cut()
 w.shared(lent('room'), 0, 12, 13, [7], 8, 'u8', '(lacking (d .need) t)')
@@ -191,5 +192,5 @@ w.cut()
 w.call(step('send_in'), [9], 11, 'Send', '(f .change .send)')
 w.lent(lent('send_all'), 0, 17, 18, [11], 14, 't′', 'ready')
 w.cut()
-w.call(step('reply'), [1, 3, 9, 5], 0, 'Answer', 'r₀')
+w.call(step('reply'), [1, 3, 9, 5], 0, 'Answer', 'r₀', '(quiet-finished z e k m [] [] [] t (not-of 0 3 (armOf e m) (fit .0) tt) .0)')
 w.write()

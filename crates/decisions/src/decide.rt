@@ -50,7 +50,7 @@ pub fn unchanged_of(proposer: Proposer, acceptor: Acceptor) -> Change
     }
 }
 
-fn freed_of(proposer: Proposer, acceptor: Acceptor) -> Change
+pub fn freed_of(proposer: Proposer, acceptor: Acceptor) -> Change
     ensures { λ r. ⌜ r ≡ freed proposer acceptor ⌝ }
 {
     let send = silence_of();
@@ -64,7 +64,7 @@ fn freed_of(proposer: Proposer, acceptor: Acceptor) -> Change
     }
 }
 
-fn sends_of(proposer: Proposer, acceptor: Acceptor, send: Send) -> Change
+pub fn sends_of(proposer: Proposer, acceptor: Acceptor, send: Send) -> Change
     ensures { λ r. ⌜ r ≡ sends proposer acceptor send ⌝ }
 {
     Change {
@@ -108,7 +108,7 @@ fn stopped_change(proposer: Proposer, acceptor: Acceptor) -> Change
 }
 
 // Receive: internal {scan} to every other proposer.
-fn receive(z: Sizes, a: u64, b: u64, q: Proposer, c: Acceptor) -> Change
+pub fn receive(z: Sizes, a: u64, b: u64, q: Proposer, c: Acceptor) -> Change
     requires { ⌜ sizesInRange z ≡ true ⌝ }
     ensures { λ r. ⌜ r ≡ receivingOf z a b q c ⌝ }
 {
@@ -163,7 +163,7 @@ fn acceptor_sends(z: Sizes, m: Message, accepted: bool, set: Scans) -> Send
 }
 
 // Delivery of a proposal.
-fn deliver_proposal(z: Sizes, m: Message, q: Proposer, c: Acceptor) -> Change
+pub fn deliver_proposal(z: Sizes, m: Message, q: Proposer, c: Acceptor) -> Change
     requires { ⌜ sizesInRange z ≡ true ⌝ }
     ensures { λ r. ⌜ r ≡ answeringOf z m q c ⌝ }
 {
@@ -181,7 +181,7 @@ fn deliver_proposal(z: Sizes, m: Message, q: Proposer, c: Acceptor) -> Change
 }
 
 // Delivery of an acknowledgement to its proposer.
-fn acknowledged_by(q: Proposer, m: Message) -> Proposer
+pub fn acknowledged_by(q: Proposer, m: Message) -> Proposer
     ensures { λ r. ⌜ r ≡ acknowledgedBy q m ⌝ }
 {
     if q.is_current(m.number) {
@@ -191,7 +191,7 @@ fn acknowledged_by(q: Proposer, m: Message) -> Proposer
 }
 
 // Delivery of a rejection.
-fn rejected_by(q: Proposer, m: Message) -> Proposer
+pub fn rejected_by(q: Proposer, m: Message) -> Proposer
     ensures { λ r. ⌜ r ≡ rejectedBy q m ⌝ }
 {
     if q.is_current(m.number) {
@@ -239,7 +239,7 @@ fn proposals_of(z: Sizes, a: u64, q: Proposer) -> Send
 }
 
 // A proposer's new record, and its proposals.
-fn proposed_change(z: Sizes, a: u64, q: Proposer, c: Acceptor) -> Change
+pub fn proposed_change(z: Sizes, a: u64, q: Proposer, c: Acceptor) -> Change
     requires { ⌜ sizesInRange z ≡ true ⌝ }
     ensures { λ r. ⌜ r ≡ sends q c (proposalsOf z (asProposer a) q) ⌝ }
 {
@@ -349,21 +349,21 @@ pub fn answer(z: Sizes, e: Event, hears: bool, decided: Scans, m: Message, l: Le
 // ---- the first refusal but 1 and 8
 
 // The first of two refusals, or 0.
-fn first_no(first: u8, second: u8) -> u8
+pub fn first_no(first: u8, second: u8) -> u8
     ensures { λ r. ⌜ r ≡ (refusal first ⨾ second) ⌝ }
 {
     if first == 0 { second } else { first }
 }
 
 // 5 where a party has crashed.
-fn alive_no(alive: bool) -> u8
+pub fn alive_no(alive: bool) -> u8
     ensures { λ r. ⌜ r ≡ (5 unless alive ⨾ ok) ⌝ }
 {
     if alive { 0 } else { 5 }
 }
 
 // 3 where an event names what does not exist, then 5.
-fn party_no(exists: bool, alive: bool) -> u8
+pub fn party_no(exists: bool, alive: bool) -> u8
     ensures { λ r. ⌜ r ≡ partyNo exists alive ⌝ }
 {
     if !exists {
@@ -372,7 +372,7 @@ fn party_no(exists: bool, alive: bool) -> u8
     alive_no(alive)
 }
 
-fn receive_no(z: Sizes, a: u64, b: u64, alive: bool) -> u8
+pub fn receive_no(z: Sizes, a: u64, b: u64, alive: bool) -> u8
     ensures { λ r. ⌜ r ≡ receiveNo z a b alive ⌝ }
 {
     let exist = both(a < z.proposers as u64, b < z.scans as u64);
@@ -380,7 +380,7 @@ fn receive_no(z: Sizes, a: u64, b: u64, alive: bool) -> u8
 }
 
 // Codes 2 to 4: 3, then 4 where the slot is free.
-fn slot_no(z: Sizes, a: u64, b: u64, m: Message) -> u8
+pub fn slot_no(z: Sizes, a: u64, b: u64, m: Message) -> u8
     ensures { λ r. ⌜ r ≡ slotNo z a b m ⌝ }
 {
     if !both(a < z.slots as u64, b == 0) {
@@ -414,7 +414,7 @@ fn deliver_no(z: Sizes, a: u64, b: u64, m: Message, q: bool, c: bool, l: bool) -
 }
 
 // Codes 5 to 7: 3, then the proposer's own refusal.
-fn proposer_no(z: Sizes, a: u64, b: u64, no: u8) -> u8
+pub fn proposer_no(z: Sizes, a: u64, b: u64, no: u8) -> u8
     ensures { λ r. ⌜ r ≡ proposerNo z a b no ⌝ }
 {
     if both(a < z.proposers as u64, b == 0) {

@@ -27,6 +27,7 @@ use Rattle.machine.specs.Slots.{Ready}
 use Rattle.machine.specs.Stepping.{within, partyOf, needOf, decideOf, refusedOf, finishOf, replyOf}
 use Rattle.machine.specs.Roles.{armOfKind, armOfRole, armAt, armOf, proposerAt, acceptorAt, learnerAt, decisionAt, finishedAt, stepAt}
 use Rattle.machine.proofs.Readiness.{ready-after}
+use Rattle.machine.proofs.Roles.{not-of, quiet-finished}
 
 -- what is decided can be sent
 pub ready-at : (z : Sizes) (e : Event) (k : ℕ) (m : Message) (ps : List Proposer) (acs : List Acceptor) (ls : List Learner) (t : List Message) → k < length t → m ≡ getD t k freeSlot
@@ -50,7 +51,7 @@ told-kind z m q c rejection h = (refl, refl)
 told-kind z m q c announcement h = absurd h
 told-kind z m q c noKind h = absurd h
 
-no-role : {X : Type 0} (r : Role) → Holds (eqb (armOfRole r) 4) → X
+pub no-role : {X : Type 0} (r : Role) → Holds (eqb (armOfRole r) 4) → X
 no-role aProposer h = absurd h
 no-role anAcceptor h = absurd h
 no-role aLearner h = absurd h
@@ -72,7 +73,7 @@ none-by : (y : Bool) (n : ℕ) → n ≡ 0 → (if y then n else 0) ≡ 0
 none-by true n e = e
 none-by false n e = refl
 
-needs-none : (n c : ℕ) (f : Bool) → f ≡ true → c ≡ 0 → needOf n f c ≡ 0
+pub needs-none : (n c : ℕ) (f : Bool) → f ≡ true → c ≡ 0 → needOf n f c ≡ 0
 unfolding needOf
 needs-none n c f p r = ap (λ (y : Bool). if eqb n 0 then (if y then c - 1 else c) else 0) p ∙ none-by (eqb n 0) (c - 1) (omega arith)
 
@@ -119,3 +120,6 @@ module _ (z : Sizes) (e : Event) (k : ℕ) (m : Message) (ps : List Proposer) (t
   told-slots =
       ap (λ (ms : List Message). post ms (set t k (slotAfter (f .change .frees) m))) (sym (ap itemsOf silent ∙ items-silence))
       ∙ ap (λ (g : Decision). post (itemsOf (g .change .send)) (set t k (slotAfter (g .change .frees) m))) as-finished
+
+  pub told-quiet : f .change .hears ≡ false
+  told-quiet = ap (λ (g : Decision). g .change .hears) as-finished ∙ quiet-finished z e k m ps [] [] t (not-of 4 3 (armOf e m) h tt) .0

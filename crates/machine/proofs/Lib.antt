@@ -21,6 +21,7 @@ pub mod Testing
 pub mod WalkedLoops
 pub mod Unchanged
 pub mod Roles
+pub mod Deciding
 pub mod Ears
 pub mod Arms
 pub mod Parts

@@ -50,7 +50,7 @@ neither-of k n h y = subst (λ (x : ℕ). Holds (takesNeither x)) (sym (eqb→eq
 proposer-of : (k n : ℕ) → Holds (eqb n k) → Holds (takesProposer k) → Holds (takesProposer n)
 proposer-of k n h y = subst (λ (x : ℕ). Holds (takesProposer x)) (sym (eqb→eq n k h)) y
 
-not-of : (k j n : ℕ) → Holds (eqb n k) → Holds (not (eqb k j)) → Holds (not (eqb n j))
+pub not-of : (k j n : ℕ) → Holds (eqb n k) → Holds (not (eqb k j)) → Holds (not (eqb n j))
 not-of k j n h y = subst (λ (x : ℕ). Holds (not (eqb x j))) (sym (eqb→eq n k h)) y
 
 -- records put in the place of those that a change has
@@ -446,7 +446,7 @@ module _ (z : Sizes) (e : Event) (k : ℕ) (m : Message) (ps : List Proposer) (a
       d₀ = decisionAt z e k m [] [] [] t
 
   -- outside of a learner's arm
-  quiet-finished : Holds (not (eqb (armOf e m) 3)) → (f .change .hears ≡ false) × (f .change .stops ≡ false)
+  pub quiet-finished : Holds (not (eqb (armOf e m) 3)) → (f .change .hears ≡ false) × (f .change .stops ≡ false)
   unfolding finishOf
   quiet-finished h = quiet-ends (eqb (d .no) 0) (eqb (lacking (d .need) t) 0) d q c (quiet-decided z e m q q c c l l h)
     where

@@ -1,13 +1,15 @@
 // One event on the records that a caller lends: fetch, decide, write back.
 ghost use mathlib.Core.Path.{_≡_};
 ghost use mathlib.Core.Bool.{true, false};
+ghost use Rattle.machine.specs.Deciding.{toldBy, deliveredNo};
 ghost use mathlib.Core.List.{[]};
 ghost use lib.Dec.{T, eqb};
 ghost use Rattle.model.specs.Records.{kindOf, roleOf, freshProposer, freshAcceptor, freshLearner};
 ghost use Rattle.model.specs.Events.{codeOf, deliver};
 ghost use Rattle.sizes.specs.Sizes.{sizesInRange};
 ghost use Rattle.model.specs.declared.Answer.the-variants.{Ok};
-ghost use Rattle.decisions.specs.Change.{slotAfter};
+ghost use Rattle.decisions.specs.Change.{changeOf, slotAfter};
+ghost use Rattle.decisions.specs.Refusals.{testNo};
 ghost use Rattle.machine.specs.Stepping.{within, partyOf, decideOf, needOf, finishOf, replyOf, Fits, stepOf};
 ghost use Rattle.machine.specs.Roles.{armOfKind, armOfRole, armOf, stepAt, earAt, hears, earSays, earNo, listenOf, OfTable, OfProposer, OfAcceptor, OfLearner, OfTold};
 use crate::lent::Ear;
@@ -22,12 +24,23 @@ use crate::lent::store_ear;
 use crate::lent::store_message;
 use crate::lent::store_proposer;
 use decisions::decide::Change;
-use decisions::decide::answer;
-use decisions::decide::change_of;
+use decisions::decide::acknowledged_by;
+use decisions::decide::alive_no;
+use decisions::decide::deliver_proposal;
+use decisions::decide::first_no;
+use decisions::decide::freed_of;
+use decisions::decide::party_no;
+use decisions::decide::proposed_change;
+use decisions::decide::proposer_no;
+use decisions::decide::receive;
+use decisions::decide::receive_no;
+use decisions::decide::rejected_by;
+use decisions::decide::sends_of;
 use decisions::decide::slot_after;
-use decisions::decide::test_no;
+use decisions::decide::slot_no;
 use decisions::decide::unchanged_of;
 use decisions::sending::Send;
+use decisions::sending::one_of;
 use model::Acceptor;
 use model::Answer;
 use model::Event;
@@ -159,40 +172,108 @@ fn need_of(no: u8, frees: bool, count: u8) -> u8
     0
 }
 
-fn decide(z: Sizes, e: Event, m: Message, q: Proposer, c: Acceptor) -> Decision
-    requires { ⌜ sizesInRange z ≡ true ⌝ }
-    ensures { λ r. ⌜ r ≡ decideOf z e m q c freshLearner ⌝ }
+// The first refusal of an acting proposer but 8, and what it leaves.
+fn acting_no(z: Sizes, e: Event, m: Message, q: Proposer) -> u8
+    requires { ⌜ T (eqb (armOf e m) 1) ⌝ }
+    ensures { λ r. ⌜ r ≡ testNo z (e .a) (e .b) m q true true (codeOf (e .code)) ⌝ }
 {
-    let no = test_no(z, e, m, q, c.alive, true);
-    let made = change_of(z, e, m, q, c);
-    let need = need_of(no, made.frees, made.send.count);
-    Decision {
-        no,
-        need,
-        change: made,
+    let a = e.a;
+    let b = e.b;
+    let code = e.code;
+    match code {
+        1 => receive_no(z, a, b, q.alive),
+        5 => proposer_no(z, a, b, q.propose_no()),
+        6 => proposer_no(z, a, b, q.refine_no(z.acceptors as u32)),
+        7 => proposer_no(z, a, b, q.decide_no(z.acceptors as u32)),
+        _ => party_no(b < z.proposers as u64, q.alive),
     }
 }
 
-// Of a proposer alone, of an acceptor alone, and of the table alone.
+fn acting_change(z: Sizes, e: Event, m: Message, q: Proposer, c: Acceptor) -> Change
+    requires { ⌜ (sizesInRange z ≡ true) × T (eqb (armOf e m) 1) ⌝ }
+    ensures { λ r. ⌜ r ≡ changeOf z (e .a) (e .b) m q c (codeOf (e .code)) ⌝ }
+{
+    let a = e.a;
+    let code = e.code;
+    match code {
+        1 => receive(z, a, e.b, q, c),
+        5 => proposed_change(z, a, q.propose(), c),
+        6 => proposed_change(z, a, q.refine(z.acceptors as u32), c),
+        7 => unchanged_of(q.decide(z.acceptors as u32), c),
+        _ => unchanged_of(q.crash(), c),
+    }
+}
+
 fn decide_proposer(z: Sizes, e: Event, m: Message, q: Proposer) -> Decision
-    requires { ⌜ sizesInRange z ≡ true ⌝ }
+    requires { ⌜ (sizesInRange z ≡ true) × T (eqb (armOf e m) 1) ⌝ }
     ensures { λ r. ⌜ r ≡ decideOf z e m q freshAcceptor freshLearner ⌝ }
 {
-    decide(z, e, m, q, Acceptor::fresh())
+    let c = Acceptor::fresh();
+    let no = acting_no(z, e, m, q);
+    let change = acting_change(z, e, m, q, c);
+    let need = need_of(no, change.frees, change.send.count);
+    Decision { no, need, change }
+}
+
+// The same of the table alone.
+fn table_no(z: Sizes, e: Event, m: Message) -> u8
+    requires { ⌜ T (eqb (armOf e m) 0) ⌝ }
+    ensures { λ r. ⌜ r ≡ testNo z (e .a) (e .b) m freshProposer true true (codeOf (e .code)) ⌝ }
+{
+    let code = e.code;
+    match code {
+        2 => delivered_no(z, e, m, true),
+        3 => slot_no(z, e.a, e.b, m),
+        4 => slot_no(z, e.a, e.b, m),
+        8 => 3,
+        _ => 2,
+    }
+}
+
+fn table_change(z: Sizes, e: Event, m: Message, q: Proposer, c: Acceptor) -> Change
+    requires { ⌜ T (eqb (armOf e m) 0) ⌝ }
+    ensures { λ r. ⌜ r ≡ changeOf z (e .a) (e .b) m q c (codeOf (e .code)) ⌝ }
+{
+    let code = e.code;
+    match code {
+        3 => freed_of(q, c),
+        4 => sends_of(q, c, one_of(m)),
+        _ => unchanged_of(q, c),
+    }
 }
 
 fn decide_acceptor(z: Sizes, e: Event, m: Message, c: Acceptor) -> Decision
-    requires { ⌜ sizesInRange z ≡ true ⌝ }
+    requires { ⌜ (sizesInRange z ≡ true) × T (eqb (armOf e m) 2) ⌝ }
     ensures { λ r. ⌜ r ≡ decideOf z e m freshProposer c freshLearner ⌝ }
 {
-    decide(z, e, m, Proposer::fresh(), c)
+    let q = Proposer::fresh();
+    if e.code == 2 {
+        let no = delivered_no(z, e, m, c.alive);
+        let change = deliver_proposal(z, m, q, c);
+        let need = need_of(no, change.frees, change.send.count);
+        return Decision { no, need, change };
+    }
+    let there = e.b < z.acceptors as u64;
+    let no = party_no(there, c.alive);
+    let crashed = c.crash();
+    let change = unchanged_of(q, crashed);
+    Decision {
+        no,
+        need: 0,
+        change,
+    }
 }
 
 fn decide_table(z: Sizes, e: Event, m: Message) -> Decision
-    requires { ⌜ sizesInRange z ≡ true ⌝ }
+    requires { ⌜ T (eqb (armOf e m) 0) ⌝ }
     ensures { λ r. ⌜ r ≡ decideOf z e m freshProposer freshAcceptor freshLearner ⌝ }
 {
-    decide(z, e, m, Proposer::fresh(), Acceptor::fresh())
+    let q = Proposer::fresh();
+    let c = Acceptor::fresh();
+    let no = table_no(z, e, m);
+    let change = table_change(z, e, m, q, c);
+    let need = need_of(no, change.frees, change.send.count);
+    Decision { no, need, change }
 }
 
 fn need_in(d: Decision) -> u8
@@ -241,12 +322,50 @@ fn finish_table(d: Decision, left: u8) -> Decision
     finish(d, left, Proposer::fresh(), Acceptor::fresh())
 }
 
+// Deliver: the refusals of its slot, then 5.
+fn delivered_no(z: Sizes, e: Event, m: Message, alive: bool) -> u8
+    ensures { λ r. ⌜ r ≡ deliveredNo z e m alive ⌝ }
+{
+    let slot = slot_no(z, e.a, e.b, m);
+    let crashed = alive_no(alive);
+    first_no(slot, crashed)
+}
+
+// What a message leaves of a proposer that is told.
+fn told_by(q: Proposer, m: Message) -> Proposer
+    ensures { λ r. ⌜ r ≡ toldBy q m (kindOf (m .kind)) ⌝ }
+{
+    let kind = m.kind;
+    match kind {
+        1 => q.buffer(m.set),
+        3 => acknowledged_by(q, m),
+        4 => rejected_by(q, m),
+        _ => q,
+    }
+}
+
 // A proposer that is told asks for no room.
 fn tell(z: Sizes, e: Event, m: Message, q: Proposer) -> Decision
-    requires { ⌜ sizesInRange z ≡ true ⌝ }
+    requires { ⌜ T (eqb (armOf e m) 4) ⌝ }
     ensures { λ r. ⌜ r ≡ finishOf (decideOf z e m q freshAcceptor freshLearner) 0 q freshAcceptor ⌝ }
 {
-    finish_proposer(decide_proposer(z, e, m, q), 0, q)
+    let no = delivered_no(z, e, m, q.alive);
+    let c = Acceptor::fresh();
+    if no == 0 {
+        let told = told_by(q, m);
+        let change = freed_of(told, c);
+        return Decision {
+            no,
+            need: 0,
+            change,
+        };
+    }
+    let change = unchanged_of(q, c);
+    Decision {
+        no,
+        need: 0,
+        change,
+    }
 }
 
 // A learner hears the message.
@@ -303,13 +422,18 @@ fn heard_by(z: Sizes, e: Event, m: Message, x: Ear) -> Listened
 }
 
 fn ear_no(z: Sizes, e: Event, m: Message, alive: bool) -> u8
+    requires { ⌜ T (eqb (armOf e m) 3) ⌝ }
     ensures { λ r. ⌜ r ≡ earNo z e m alive ⌝ }
 {
-    test_no(z, e, m, Proposer::fresh(), true, alive)
+    if e.code == 2 {
+        return delivered_no(z, e, m, alive);
+    }
+    party_no(e.b < z.learners as u64, alive)
 }
 
 // What an event leaves of a learner, by the one place that it is about.
 fn listen(z: Sizes, e: Event, m: Message, x: Ear) -> Listened
+    requires { ⌜ T (eqb (armOf e m) 3) ⌝ }
     ensures { λ r. ⌜ r ≡ listenOf z e m x ⌝ }
 {
     let no = ear_no(z, e, m, x.alive);
@@ -374,12 +498,20 @@ fn send_in(f: Decision) -> Send
 }
 
 fn reply(z: Sizes, e: Event, f: Decision, m: Message) -> Answer
+    requires { ⌜ f .change .hears ≡ false ⌝ }
     ensures { λ r. ⌜ r ≡ replyOf z e f m freshLearner ⌝ }
 {
     let no = f.no;
     if no == 0 {
-        let decided = f.change.proposer.decided;
-        return answer(z, e, f.change.hears, decided, m, Learner::fresh());
+        if e.code == 7 {
+            let set = f.change.proposer.decided;
+            let number = (e.a % 256) as u8;
+            return Answer::Decided {
+                proposer: ProposerId(number),
+                set,
+            };
+        }
+        return Answer::Ok;
     }
     Answer::Refused(no)
 }

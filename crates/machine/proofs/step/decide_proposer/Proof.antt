@@ -1,3 +1,4 @@
+use Rattle.machine.specs.Stepping.{decideOf}
 use borrow.Author.Needs.{needs}
 use Rattle.machine.proofs.step.decide_proposer.Statement.{statement}
 use Rattle.machine.proofs.step.decide_proposer.Tie as tie
@@ -5,11 +6,18 @@ use Rattle.machine.proofs.step.decide_proposer.Tie as tie
 fresh-requires : tie.Need-fresh-requires
 fresh-requires c κs = search needs
 
-decide-requires : tie.Need-decide-requires
-decide-requires c κs = search needs
+acting-no-requires : tie.Need-acting-no-requires
+acting-no-requires c κs = search needs
+
+acting-change-requires : tie.Need-acting-change-requires
+acting-change-requires c κs = search needs
+
+need-of-requires : tie.Need-need-of-requires
+need-of-requires c κs = search needs
 
 returns : tie.Need-returns
-returns c = simp (c .decide .ensures, c .before .fresh .ensures)
+unfolding decideOf
+returns c = simp (c .need-of .ensures, c .before .acting-change .ensures, c .before .before .acting-no .ensures, c .before .before .before .fresh .ensures)
 
 pub decide-proposer-spec : {M : Type 1} → statement M
-decide-proposer-spec = tie.close (tie.spec fresh-requires decide-requires returns)
+decide-proposer-spec = tie.close (tie.spec fresh-requires acting-no-requires acting-change-requires need-of-requires returns)

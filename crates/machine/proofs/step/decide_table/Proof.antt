@@ -1,3 +1,4 @@
+use Rattle.machine.specs.Stepping.{decideOf}
 use borrow.Author.Needs.{needs}
 use Rattle.machine.proofs.step.decide_table.Statement.{statement}
 use Rattle.machine.proofs.step.decide_table.Tie as tie
@@ -8,11 +9,18 @@ fresh-requires c κs = search needs
 fresh-requires-2 : tie.Need-fresh-requires-2
 fresh-requires-2 c κs = search needs
 
-decide-requires : tie.Need-decide-requires
-decide-requires c κs = search needs
+table-no-requires : tie.Need-table-no-requires
+table-no-requires c κs = search needs
+
+table-change-requires : tie.Need-table-change-requires
+table-change-requires c κs = search needs
+
+need-of-requires : tie.Need-need-of-requires
+need-of-requires c κs = search needs
 
 returns : tie.Need-returns
-returns c = simp (c .decide .ensures, c .before .fresh2 .ensures, c .before .before .fresh .ensures)
+unfolding decideOf
+returns c = simp (c .need-of .ensures, c .before .table-change .ensures, c .before .before .table-no .ensures, c .before .before .before .fresh2 .ensures, c .before .before .before .before .fresh .ensures)
 
 pub decide-table-spec : {M : Type 1} → statement M
-decide-table-spec = tie.close (tie.spec fresh-requires fresh-requires-2 decide-requires returns)
+decide-table-spec = tie.close (tie.spec fresh-requires fresh-requires-2 table-no-requires table-change-requires need-of-requires returns)

@@ -363,7 +363,7 @@ module _ {M : Type 1} (𝓤 : URA M) (H : Heap 𝓤) (A : Atoms 𝓤) (W : Given
           (load-ear.clauses 𝓤 H A mem run) known-load-ear x (λ ν δ. tt) (λ ν δ. factI 𝓤 _ (emp 𝓤) in-l) (λ ν δ r e′. id⊢ 𝓤 (fact 𝓤 (r ≡ x))) (λ ν δ. (and-then ! (reads ! (from ! (stop !)) (look ! 17 refl)) (and-then ! (reads ! (from ! (stop !)) (look ! 31 refl)) (and-then ! (reads ! (from ! (stop !)) (look ! 29 refl)) (no-more !))))) (λ g10.
           land ! (from ! (stop !)) (init ! 24 refl (typedEa x g10)) $
           calls-value ! fm (listen.signature .params) Li.the-row (listen.ended .kept) (listen.clauses 𝓤 H A mem run) known-listen (valsSz, (valsEv, (valsMs, (valsEa, tt)))) (makesSz, (makesEv, (makesMs, (makesEa, tt)))) valLi (LL.tells Li.the-type Li′.the-laws)
-          (z, (e, (m, (x, tt)))) (gz, (ge, (gm, (g10, tt)))) tt (id⊢ 𝓤 (emp 𝓤)) y (λ r e′. id⊢ 𝓤 (fact 𝓤 (r ≡ y))) (and-then ! (reads ! (from ! (stop !)) (look ! 43 refl)) (and-then ! (reads ! (from ! (stop !)) (look ! 37 refl)) (and-then ! (reads ! (from ! (stop !)) (look ! 33 refl)) (and-then ! (reads ! (from ! (stop !)) (look ! 25 refl)) (no-more !))))) (λ g11.
+          (z, (e, (m, (x, tt)))) (gz, (ge, (gm, (g10, tt)))) tt (factI 𝓤 _ (emp 𝓤) (fit .0)) y (λ r e′. id⊢ 𝓤 (fact 𝓤 (r ≡ y))) (and-then ! (reads ! (from ! (stop !)) (look ! 43 refl)) (and-then ! (reads ! (from ! (stop !)) (look ! 37 refl)) (and-then ! (reads ! (from ! (stop !)) (look ! 33 refl)) (and-then ! (reads ! (from ! (stop !)) (look ! 25 refl)) (no-more !))))) (λ g11.
           land ! (from ! (stop !)) (init ! 22 refl (typedLi y g11)) $
           forget ! 16 refl $
           forget ! 14 refl $

@@ -43,13 +43,14 @@ use Rattle.decisions.specs.Sending.{itemsOf, lacking}
 use Rattle.decisions.specs.Change.{slotAfter}
 use Rattle.machine.specs.Slots.{Ready}
 use Rattle.machine.specs.Stepping.{within, partyOf, decideOf, finishOf, replyOf}
-use Rattle.machine.specs.Roles.{proposerAt, acceptorAt, decisionAt, finishedAt, stepAt, OfProposer}
+use Rattle.machine.specs.Roles.{proposerAt, acceptorAt, decisionAt, finishedAt, stepAt, armOf, OfProposer}
 use Rattle.model.specs.Records.{freshProposer, freshAcceptor, freshLearner}
 use Rattle.machine.proofs.Relending.{Slice, listAt}
 use Rattle.machine.proofs.CallsByValue.{calls-value}
 use Rattle.machine.proofs.CallsLending.{calls-shared, calls-lent}
 use Rattle.sizes.proofs.SizeLaws.{bounds}
 use Rattle.machine.proofs.Readiness.{within-in as party-there}
+use Rattle.machine.proofs.Roles.{not-of, quiet-finished}
 use Rattle.machine.proofs.Arms.{ready-at}
 use Rattle.model.specs.declared.Proposer.{Proposer}
 use Rattle.model.proofs.Proposer as Pr
@@ -356,7 +357,7 @@ module _ {M : Type 1} (𝓤 : URA M) (H : Heap 𝓤) (A : Atoms 𝓤) (W : Given
           ∷ ‵ (froom (sliceTy (tyRef erased mut (pointee (Ms.the-row .written)))) l₂₇ 0) ∷ ‵ (fdies (sliceTy (tyRef erased mut (pointee (Ms.the-row .written)))) l₂₇) ∷ ‵ (froom (tyRef erased mut (pointee (Ms.the-row .written))) l₂₆ 0) ∷ ‵ (fdies (tyRef erased mut (pointee (Ms.the-row .written))) l₂₆) ∷ ‵ (froom (sliceTy (tyRef erased mut (pointee (Ms.the-row .written)))) l₂₅ 0) ∷ ‵ (fdies (sliceTy (tyRef erased mut (pointee (Ms.the-row .written)))) l₂₅) ∷ ‵ (froom (tyRef erased mut (pointee (Ms.the-row .written))) l₂₄ 0) ∷ ‵ (fdies (tyRef erased mut (pointee (Ms.the-row .written))) l₂₄) ∷ ‵ (froom (sliceTy (tyRef erased mut (pointee (Pr.the-row .written)))) l₂₃ 0) ∷ ‵ (fdies (sliceTy (tyRef erased mut (pointee (Pr.the-row .written)))) l₂₃) ∷ ‵ (froom (tyRef erased mut (pointee (Pr.the-row .written))) l₂₂ 0) ∷ ‵ (fdies (tyRef erased mut (pointee (Pr.the-row .written))) l₂₂) ∷ ‵ (froom tyUnit l₂₁ 0) ∷ ‵ (fdies tyUnit l₂₁) ∷ ‵ (froom (sliceTy (tyRef erased imm (pointee (Ms.the-row .written)))) l₂₀ 0) ∷ ‵ (fdies (sliceTy (tyRef erased imm (pointee (Ms.the-row .written)))) l₂₀) ∷ ‵ (froom (tyRef erased imm (pointee (Ms.the-row .written))) l₁₉ 0) ∷ ‵ (fdies (tyRef erased imm (pointee (Ms.the-row .written))) l₁₉) ∷ ‵ (froom (sliceTy (tyRef erased imm (pointee (Pr.the-row .written)))) l₁₈ 0) ∷ ‵ (fdies (sliceTy (tyRef erased imm (pointee (Pr.the-row .written)))) l₁₈) ∷ ‵ (froom (tyRef erased imm (pointee (Pr.the-row .written))) l₁₇ 0) ∷ ‵ (fdies (tyRef erased imm (pointee (Pr.the-row .written))) l₁₇) ∷ ‵ (fat fullShare Sd′.mir l₁₆ 0 (valSd (f .change .send))) ∷ ‵ (fdies Sd′.mir l₁₆) ∷ ‵ (fat fullShare Ms′.mir l₁₅ 0 (valMs m′)) ∷ ‵ (fdies Ms′.mir l₁₅) ∷ ‵ (fat fullShare Pr′.mir l₁₄ 0 (valPr (f .change .proposer))) ∷ ‵ (fdies Pr′.mir l₁₄) ∷ ‵ (fat fullShare Dn′.mir l₁₃ 0 (valDn f)) ∷ ‵ (fdies Dn′.mir l₁₃) ∷ ‵ (fat fullShare byte l₁₂ 0 (vint w8 (lacking (d .need) t))) ∷ ‵ (fdies byte l₁₂) ∷ ‵ (fat fullShare byte l₁₁ 0 (vint w8 (d .need))) ∷ ‵ (fdies byte l₁₁) ∷ ‵ (fat fullShare Dn′.mir l₁₀ 0 (valDn d)) ∷ ‵ (fdies Dn′.mir l₁₀) ∷ ‵ (fat fullShare Pr′.mir l₉ 0 (valPr q)) ∷ ‵ (fdies Pr′.mir l₉) ∷ ‵ (fat fullShare word l₈ 0 (vint w64 p)) ∷ ‵ (fdies word l₈) ∷ ‵ (fat fullShare word l₇ 0 (vint w64 i)) ∷ ‵ (fdies word l₇) ∷ ‵ (fat fullShare Ms′.mir l₆ 0 (valMs m)) ∷ ‵ (fdies Ms′.mir l₆) ∷ ‵ (fat fullShare word l₅ 0 (vint w64 k)) ∷ ‵ (fdies word l₅) ∷ ‵ (fat fullShare Ev′.mir l₄ 0 (valEv e)) ∷ ‵ (fdies Ev′.mir l₄) ∷ ‵ (fat fullShare (sliceTy (tyRef (named 1) mut (pointee (Ms.the-row .written)))) l₃ 0 s₁) ∷ ‵ (fdies (sliceTy (tyRef (named 1) mut (pointee (Ms.the-row .written)))) l₃) ∷ ‵ (fat fullShare (sliceTy (tyRef (named 0) mut (pointee (Pr.the-row .written)))) l₂ 0 s₀) ∷ ‵ (fdies (sliceTy (tyRef (named 0) mut (pointee (Pr.the-row .written)))) l₂) ∷ ‵ (fat fullShare Sz′.mir l₁ 0 (valSz z)) ∷ ‵ (fdies Sz′.mir l₁) ∷ ‵ (froom An′.mir l₀ 0) ∷ ‵ (fdies An′.mir l₀) ∷ []) (runs C Λ En pieces.t-24 (atRet En Post))
       part-7 g7 g8 g9 g10 g11 g12 g13 g14 g15 g16 e23 e27 =
           calls-value ! fm (reply.signature .params) An.the-row (reply.ended .kept) (reply.clauses 𝓤 H A mem run) known-reply (valsSz, (valsEv, (valsDn, (valsMs, tt)))) (makesSz, (makesEv, (makesDn, (makesMs, tt)))) valAn (EL.tells An.the-type An′.the-laws)
-          (z, (e, (f, (m, tt)))) (gz, (ge, (g13, (gm, tt)))) tt (id⊢ 𝓤 (emp 𝓤)) r₀ (λ r e′. id⊢ 𝓤 (fact 𝓤 (r ≡ r₀))) (and-then ! (reads ! (from ! (stop !)) (look ! 57 refl)) (and-then ! (reads ! (from ! (stop !)) (look ! 51 refl)) (and-then ! (reads ! (from ! (stop !)) (look ! 33 refl)) (and-then ! (reads ! (from ! (stop !)) (look ! 47 refl)) (no-more !))))) (λ g0.
+          (z, (e, (f, (m, tt)))) (gz, (ge, (g13, (gm, tt)))) tt (factI 𝓤 _ (emp 𝓤) (quiet-finished z e k m ps [] [] t (not-of 1 3 (armOf e m) (fit .0) tt) .0)) r₀ (λ r e′. id⊢ 𝓤 (fact 𝓤 (r ≡ r₀))) (and-then ! (reads ! (from ! (stop !)) (look ! 57 refl)) (and-then ! (reads ! (from ! (stop !)) (look ! 51 refl)) (and-then ! (reads ! (from ! (stop !)) (look ! 33 refl)) (and-then ! (reads ! (from ! (stop !)) (look ! 47 refl)) (no-more !))))) (λ g0.
           land ! (from ! (stop !)) (init ! 58 refl (typedAn r₀ g0)) $
           returns ! (look ! 58 refl) $ forget ! 26 refl $ forget ! 28 refl $ forget ! 30 refl $ forget ! 32 refl $ forget ! 34 refl $ forget ! 36 refl $ forget ! 38 refl $ forget ! 40 refl $ forget ! 42 refl $ forget ! 44 refl $ forget ! 46 refl $ forget ! 48 refl $ forget ! 50 refl $ forget ! 52 refl $ forget ! 54 refl $ forget ! 56 refl $ forget ! 58 refl $
           move ! (58 ∷ 59 ∷ []) $ free1 ! $ move ! (56 ∷ 57 ∷ []) $ free1 ! $ move ! (54 ∷ 55 ∷ []) $ free1 ! $ move ! (52 ∷ 53 ∷ []) $ free1 ! $ move ! (50 ∷ 51 ∷ []) $ free1 ! $ move ! (48 ∷ 49 ∷ []) $ free1 ! $ move ! (46 ∷ 47 ∷ []) $ free1 ! $ move ! (44 ∷ 45 ∷ []) $ free1 ! $ move ! (42 ∷ 43 ∷ []) $ free1 ! $ move ! (40 ∷ 41 ∷ []) $ free1 ! $ move ! (38 ∷ 39 ∷ []) $ free1 ! $ move ! (36 ∷ 37 ∷ []) $ free1 ! $ move ! (34 ∷ 35 ∷ []) $ free1 ! $ move ! (32 ∷ 33 ∷ []) $ free1 ! $ move ! (30 ∷ 31 ∷ []) $ free1 ! $ move ! (28 ∷ 29 ∷ []) $ free1 ! $ move ! (26 ∷ 27 ∷ []) $ free1 ! $ move ! (24 ∷ 25 ∷ []) $ free1 ! $ move ! (22 ∷ 23 ∷ []) $ free1 ! $ move ! (20 ∷ 21 ∷ []) $ free1 ! $ move ! (18 ∷ 19 ∷ []) $ free1 ! $ move ! (16 ∷ 17 ∷ []) $ free1 ! $ move ! (14 ∷ 15 ∷ []) $ free1 ! $ move ! (12 ∷ 13 ∷ []) $ free1 ! $ move ! (10 ∷ 11 ∷ []) $ free1 ! $ move ! (8 ∷ 9 ∷ []) $ free1 ! $ move ! (6 ∷ 7 ∷ []) $ free1 ! $ move ! (4 ∷ 5 ∷ []) $ free1 ! $ free0 ! $
@@ -440,7 +441,7 @@ module _ {M : Type 1} (𝓤 : URA M) (H : Heap 𝓤) (A : Atoms 𝓤) (W : Given
           (load-proposer.clauses 𝓤 H A mem run) known-load-proposer q (λ ν δ. tt) (λ ν δ. factI 𝓤 _ (emp 𝓤) in-p) (λ ν δ r e′. id⊢ 𝓤 (fact 𝓤 (r ≡ q))) (λ ν δ. (and-then ! (reads ! (from ! (stop !)) (look ! 25 refl)) (and-then ! (reads ! (from ! (stop !)) (look ! 45 refl)) (no-more !)))) (λ g9.
           land ! (from ! (stop !)) (init ! 40 refl (typedPr q g9)) $
           calls-value ! fm (decide-proposer.signature .params) Dn.the-row (decide-proposer.ended .kept) (decide-proposer.clauses 𝓤 H A mem run) known-decide-proposer (valsSz, (valsEv, (valsMs, (valsPr, tt)))) (makesSz, (makesEv, (makesMs, (makesPr, tt)))) valDn (LL.tells Dn.the-type Dn′.the-laws)
-          (z, (e, (m, (q, tt)))) (gz, (ge, (gm, (g9, tt)))) tt (factI 𝓤 _ (emp 𝓤) (fit .1 .1 .0)) d (λ r e′. id⊢ 𝓤 (fact 𝓤 (r ≡ d))) (and-then ! (reads ! (from ! (stop !)) (look ! 57 refl)) (and-then ! (reads ! (from ! (stop !)) (look ! 51 refl)) (and-then ! (reads ! (from ! (stop !)) (look ! 47 refl)) (and-then ! (reads ! (from ! (stop !)) (look ! 41 refl)) (no-more !))))) (λ g10.
+          (z, (e, (m, (q, tt)))) (gz, (ge, (gm, (g9, tt)))) tt (factI 𝓤 _ (emp 𝓤) (fit .1 .1 .0, fit .0)) d (λ r e′. id⊢ 𝓤 (fact 𝓤 (r ≡ d))) (and-then ! (reads ! (from ! (stop !)) (look ! 57 refl)) (and-then ! (reads ! (from ! (stop !)) (look ! 51 refl)) (and-then ! (reads ! (from ! (stop !)) (look ! 47 refl)) (and-then ! (reads ! (from ! (stop !)) (look ! 41 refl)) (no-more !))))) (λ g10.
           land ! (from ! (stop !)) (init ! 38 refl (typedDn d g10)) $
           forget ! 24 refl $
           forget ! 22 refl $

@@ -43,14 +43,15 @@ use Rattle.decisions.specs.Sending.{itemsOf, lacking}
 use Rattle.decisions.specs.Change.{slotAfter}
 use Rattle.machine.specs.Slots.{Ready}
 use Rattle.machine.specs.Stepping.{within, partyOf, decideOf, finishOf, replyOf}
-use Rattle.machine.specs.Roles.{proposerAt, acceptorAt, decisionAt, finishedAt, stepAt, OfTold}
+use Rattle.machine.specs.Roles.{proposerAt, acceptorAt, decisionAt, finishedAt, stepAt, armOf, OfTold}
 use Rattle.model.specs.Records.{freshProposer, freshAcceptor, freshLearner}
 use Rattle.machine.proofs.Relending.{Slice, listAt}
 use Rattle.machine.proofs.CallsByValue.{calls-value}
 use Rattle.machine.proofs.CallsLending.{calls-shared, calls-lent}
 use Rattle.sizes.proofs.SizeLaws.{bounds}
 use Rattle.machine.proofs.Readiness.{within-in as party-there}
-use Rattle.machine.proofs.Arms.{told-says, told-left, told-slots}
+use Rattle.machine.proofs.Roles.{not-of, quiet-finished}
+use Rattle.machine.proofs.Arms.{told-says, told-left, told-slots, told-quiet}
 use Rattle.model.specs.declared.Proposer.{Proposer}
 use Rattle.model.proofs.Proposer as Pr
 use Rattle.model.proofs.Proposer.Laws as Pr′
@@ -294,7 +295,7 @@ module _ {M : Type 1} (𝓤 : URA M) (H : Heap 𝓤) (A : Atoms 𝓤) (W : Given
           ∷ ‵ (froom (sliceTy (tyRef erased mut (pointee (Ms.the-row .written)))) l₁₉ 0) ∷ ‵ (fdies (sliceTy (tyRef erased mut (pointee (Ms.the-row .written)))) l₁₉) ∷ ‵ (froom (tyRef erased mut (pointee (Ms.the-row .written))) l₁₈ 0) ∷ ‵ (fdies (tyRef erased mut (pointee (Ms.the-row .written))) l₁₈) ∷ ‵ (froom (sliceTy (tyRef erased mut (pointee (Pr.the-row .written)))) l₁₇ 0) ∷ ‵ (fdies (sliceTy (tyRef erased mut (pointee (Pr.the-row .written)))) l₁₇) ∷ ‵ (froom (tyRef erased mut (pointee (Pr.the-row .written))) l₁₆ 0) ∷ ‵ (fdies (tyRef erased mut (pointee (Pr.the-row .written))) l₁₆) ∷ ‵ (froom tyUnit l₁₅ 0) ∷ ‵ (fdies tyUnit l₁₅) ∷ ‵ (froom (sliceTy (tyRef erased imm (pointee (Pr.the-row .written)))) l₁₄ 0) ∷ ‵ (fdies (sliceTy (tyRef erased imm (pointee (Pr.the-row .written)))) l₁₄) ∷ ‵ (froom (tyRef erased imm (pointee (Pr.the-row .written))) l₁₃ 0) ∷ ‵ (fdies (tyRef erased imm (pointee (Pr.the-row .written))) l₁₃) ∷ ‵ (fat fullShare Ms′.mir l₁₂ 0 (valMs m′)) ∷ ‵ (fdies Ms′.mir l₁₂) ∷ ‵ (fat fullShare Pr′.mir l₁₁ 0 (valPr (f .change .proposer))) ∷ ‵ (fdies Pr′.mir l₁₁) ∷ ‵ (fat fullShare Dn′.mir l₁₀ 0 (valDn f)) ∷ ‵ (fdies Dn′.mir l₁₀) ∷ ‵ (fat fullShare Pr′.mir l₉ 0 (valPr q)) ∷ ‵ (fdies Pr′.mir l₉) ∷ ‵ (fat fullShare word l₈ 0 (vint w64 pi)) ∷ ‵ (fdies word l₈) ∷ ‵ (fat fullShare word l₇ 0 (vint w64 i)) ∷ ‵ (fdies word l₇) ∷ ‵ (fat fullShare Ms′.mir l₆ 0 (valMs m)) ∷ ‵ (fdies Ms′.mir l₆) ∷ ‵ (fat fullShare word l₅ 0 (vint w64 k)) ∷ ‵ (fdies word l₅) ∷ ‵ (fat fullShare Ev′.mir l₄ 0 (valEv e)) ∷ ‵ (fdies Ev′.mir l₄) ∷ ‵ (fat fullShare (sliceTy (tyRef (named 1) mut (pointee (Ms.the-row .written)))) l₃ 0 s₁) ∷ ‵ (fdies (sliceTy (tyRef (named 1) mut (pointee (Ms.the-row .written)))) l₃) ∷ ‵ (fat fullShare (sliceTy (tyRef (named 0) mut (pointee (Pr.the-row .written)))) l₂ 0 s₀) ∷ ‵ (fdies (sliceTy (tyRef (named 0) mut (pointee (Pr.the-row .written)))) l₂) ∷ ‵ (fat fullShare Sz′.mir l₁ 0 (valSz z)) ∷ ‵ (fdies Sz′.mir l₁) ∷ ‵ (froom An′.mir l₀ 0) ∷ ‵ (fdies An′.mir l₀) ∷ []) (runs C Λ En pieces.t-15 (atRet En Post))
       part-5 g7 g8 g9 g10 g11 g12 e17 e19 =
           calls-value ! fm (reply.signature .params) An.the-row (reply.ended .kept) (reply.clauses 𝓤 H A mem run) known-reply (valsSz, (valsEv, (valsDn, (valsMs, tt)))) (makesSz, (makesEv, (makesDn, (makesMs, tt)))) valAn (EL.tells An.the-type An′.the-laws)
-          (z, (e, (f, (m, tt)))) (gz, (ge, (g10, (gm, tt)))) tt (id⊢ 𝓤 (emp 𝓤)) r₀ (λ r e′. id⊢ 𝓤 (fact 𝓤 (r ≡ r₀))) (and-then ! (reads ! (from ! (stop !)) (look ! 41 refl)) (and-then ! (reads ! (from ! (stop !)) (look ! 35 refl)) (and-then ! (reads ! (from ! (stop !)) (look ! 23 refl)) (and-then ! (reads ! (from ! (stop !)) (look ! 31 refl)) (no-more !))))) (λ g0.
+          (z, (e, (f, (m, tt)))) (gz, (ge, (g10, (gm, tt)))) tt (factI 𝓤 _ (emp 𝓤) (told-quiet z e k m ps t (fit .0))) r₀ (λ r e′. id⊢ 𝓤 (fact 𝓤 (r ≡ r₀))) (and-then ! (reads ! (from ! (stop !)) (look ! 41 refl)) (and-then ! (reads ! (from ! (stop !)) (look ! 35 refl)) (and-then ! (reads ! (from ! (stop !)) (look ! 23 refl)) (and-then ! (reads ! (from ! (stop !)) (look ! 31 refl)) (no-more !))))) (λ g0.
           land ! (from ! (stop !)) (init ! 42 refl (typedAn r₀ g0)) $
           returns ! (look ! 42 refl) $ forget ! 18 refl $ forget ! 20 refl $ forget ! 22 refl $ forget ! 24 refl $ forget ! 26 refl $ forget ! 28 refl $ forget ! 30 refl $ forget ! 32 refl $ forget ! 34 refl $ forget ! 36 refl $ forget ! 38 refl $ forget ! 40 refl $ forget ! 42 refl $
           move ! (42 ∷ 43 ∷ []) $ free1 ! $ move ! (40 ∷ 41 ∷ []) $ free1 ! $ move ! (38 ∷ 39 ∷ []) $ free1 ! $ move ! (36 ∷ 37 ∷ []) $ free1 ! $ move ! (34 ∷ 35 ∷ []) $ free1 ! $ move ! (32 ∷ 33 ∷ []) $ free1 ! $ move ! (30 ∷ 31 ∷ []) $ free1 ! $ move ! (28 ∷ 29 ∷ []) $ free1 ! $ move ! (26 ∷ 27 ∷ []) $ free1 ! $ move ! (24 ∷ 25 ∷ []) $ free1 ! $ move ! (22 ∷ 23 ∷ []) $ free1 ! $ move ! (20 ∷ 21 ∷ []) $ free1 ! $ move ! (18 ∷ 19 ∷ []) $ free1 ! $ move ! (16 ∷ 17 ∷ []) $ free1 ! $ move ! (14 ∷ 15 ∷ []) $ free1 ! $ move ! (12 ∷ 13 ∷ []) $ free1 ! $ move ! (10 ∷ 11 ∷ []) $ free1 ! $ move ! (8 ∷ 9 ∷ []) $ free1 ! $ move ! (6 ∷ 7 ∷ []) $ free1 ! $ move ! (4 ∷ 5 ∷ []) $ free1 ! $ free0 ! $
@@ -342,7 +343,7 @@ module _ {M : Type 1} (𝓤 : URA M) (H : Heap 𝓤) (A : Atoms 𝓤) (W : Given
           (load-proposer.clauses 𝓤 H A mem run) known-load-proposer q (λ ν δ. tt) (λ ν δ. factI 𝓤 _ (emp 𝓤) in-p) (λ ν δ r e′. id⊢ 𝓤 (fact 𝓤 (r ≡ q))) (λ ν δ. (and-then ! (reads ! (from ! (stop !)) (look ! 17 refl)) (and-then ! (reads ! (from ! (stop !)) (look ! 29 refl)) (no-more !)))) (λ g9.
           land ! (from ! (stop !)) (init ! 24 refl (typedPr q g9)) $
           calls-value ! fm (tell.signature .params) Dn.the-row (tell.ended .kept) (tell.clauses 𝓤 H A mem run) known-tell (valsSz, (valsEv, (valsMs, (valsPr, tt)))) (makesSz, (makesEv, (makesMs, (makesPr, tt)))) valDn (LL.tells Dn.the-type Dn′.the-laws)
-          (z, (e, (m, (q, tt)))) (gz, (ge, (gm, (g9, tt)))) tt (factI 𝓤 _ (emp 𝓤) (fit .1 .1 .0)) f (λ r e′. id⊢ 𝓤 (fact 𝓤 (r ≡ f))) (and-then ! (reads ! (from ! (stop !)) (look ! 41 refl)) (and-then ! (reads ! (from ! (stop !)) (look ! 35 refl)) (and-then ! (reads ! (from ! (stop !)) (look ! 31 refl)) (and-then ! (reads ! (from ! (stop !)) (look ! 25 refl)) (no-more !))))) (λ g10.
+          (z, (e, (m, (q, tt)))) (gz, (ge, (gm, (g9, tt)))) tt (factI 𝓤 _ (emp 𝓤) (fit .0)) f (λ r e′. id⊢ 𝓤 (fact 𝓤 (r ≡ f))) (and-then ! (reads ! (from ! (stop !)) (look ! 41 refl)) (and-then ! (reads ! (from ! (stop !)) (look ! 35 refl)) (and-then ! (reads ! (from ! (stop !)) (look ! 31 refl)) (and-then ! (reads ! (from ! (stop !)) (look ! 25 refl)) (no-more !))))) (λ g10.
           land ! (from ! (stop !)) (init ! 22 refl (typedDn f g10)) $
           forget ! 16 refl $
           forget ! 14 refl $

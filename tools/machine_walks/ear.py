@@ -1,4 +1,4 @@
-"""The walks of `load_ear` and `store_ear`: crates/machine/proofs/lent/{load,store}_ear/Proof.antt. They follow the statements of src/lent.rt in their order. The slice is opened once, and the learner's fields and its one place are read and stored while it is open.
+"""The walks of `ear_by` and `put_ear`: crates/machine/proofs/lent/{ear_by,put_ear}/Proof.antt. They follow the statements of src/lent.rt in their order. The slice is opened once, and the learner's fields and its one place are read and stored while it is open.
 
 Run it at the project's root: python3 tools/machine_walks/ear.py
 """
@@ -113,7 +113,7 @@ use Rattle.machine.proofs.Parts.{behind, item}
 # ---- load_ear
 
 f = Function(
-    'lent', 'load_ear', comment=COMMENT % ('load_ear', 'read'),
+    'lent', 'ear_by', comment=COMMENT % ('ear_by', 'read'),
     structs=STRUCTS,
     params=[shared_slice_of('Learner', 't'), value('usize', 'i'), value('ProposerId', 'p')],
     locals=['usize', 'bool', 'Scans', 'Heard', 'usize', 'usize', 'usize', 'usize', 'usize', 'usize', 'usize', 'Heard'],
@@ -147,7 +147,7 @@ w.write()
 # ---- store_ear
 
 f = Function(
-    'lent', 'store_ear', comment=COMMENT % ('store_ear', 'stored over'),
+    'lent', 'put_ear', comment=COMMENT % ('put_ear', 'stored over'),
     structs=STRUCTS,
     params=[slice_of('Learner', 't'), value('usize', 'i'), value('ProposerId', 'p'), value('Ear', 'x')],
     locals=['usize', 'Heard', 'Heard', 'usize', 'usize', 'usize', 'usize', 'usize', 'Heard', 'usize', 'usize', 'usize', 'usize', 'usize'],

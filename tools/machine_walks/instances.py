@@ -34,9 +34,12 @@ def write(fn, struct, walk, given, uses='', callees='', known='', table='entered
 STRUCTS = [('Proposer', 'freshProposer'), ('Acceptor', 'freshAcceptor'), ('Learner', 'freshLearner'), ('Message', 'freeSlot')]
 
 for struct, fresh in STRUCTS:
+    if struct == 'Learner':     # a learner is read and stored by one place: ear.py
+        continue
     records = 'use Rattle.model.specs.Records.{%s}\n' % fresh
-    write('load_' + struct.lower(), struct, 'Loading', 'T.the-type T′.the-laws T′.the-plain T′.the-copy %s tt' % fresh, records)
-    write('store_' + struct.lower(), struct, 'Storing', 'T.the-type T′.the-laws T′.the-plain tt refl', 'use mathlib.Core.Path.{refl}\n')
+    by_id = struct != 'Message'
+    write('%s_by' % struct.lower() if by_id else 'load_message', struct, 'Loading', 'T.the-type T′.the-laws T′.the-plain T′.the-copy %s tt' % fresh, records)
+    write('put_%s' % struct.lower() if by_id else 'store_message', struct, 'Storing', 'T.the-type T′.the-laws T′.the-plain tt refl', 'use mathlib.Core.Path.{refl}\n')
 
 
 def callee(path, name):

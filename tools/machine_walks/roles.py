@@ -9,6 +9,8 @@ STRUCTS = RECORDS + [
     ('Send', 'Sd', 'Rattle.decisions.proofs.sending.Send', 'Rattle.decisions.specs.declared.sending.Send'),
     ('Decision', 'Dn', CRATE + '.step.Decision', 'Rattle.machine.specs.declared.step.Decision'),
     ('ProposerId', 'Pi', 'Rattle.sets.proofs.ProposerId', 'Rattle.sets.specs.declared.ProposerId'),
+    ('AcceptorId', 'Ai', 'Rattle.sets.proofs.AcceptorId', 'Rattle.sets.specs.declared.AcceptorId'),
+    ('LearnerId', 'Ll', 'Rattle.sets.proofs.LearnerId', 'Rattle.sets.specs.declared.LearnerId'),
     ('Ear', 'Ea', CRATE + '.lent.Ear', 'Rattle.machine.specs.declared.lent.Ear'),
     ('Listened', 'Li', CRATE + '.step.Listened', 'Rattle.machine.specs.declared.step.Listened'),
     ('Answer', 'An', 'Rattle.model.proofs.Answer', 'Rattle.model.specs.declared.Answer'),
@@ -42,10 +44,10 @@ def arm(name, role, locals, temporaries, definitions, facts, after, says, uses, 
 # ---- a learner, by one place
 
 f = arm('learner', ('Learner', 'ls'),
-    locals=['u64', 'usize', 'ProposerId', 'Ear', 'Listened', 'Ear', 'Message', ('Learner', 'imm'), 'unit', ('Learner', 'mut'), ('Message', 'mut')],
+    locals=['u64', 'LearnerId', 'ProposerId', 'Ear', 'Listened', 'Ear', 'Message', ('Learner', 'imm'), 'unit', ('Learner', 'mut'), ('Message', 'mut')],
     temporaries=14,
     definitions=[
-        ('i', 'ℕ', 'partyOf e m'), ('li', 'ℕ', 'within i (z .learners)'), ('l', 'Learner', 'getD ls li freshLearner'), ('x', 'Ear', 'earOf l (m .proposer .0)'), ('y', 'Listened', 'listenOf z e m x'),
+        ('i', 'ℕ', 'partyOf e m'), ('li', 'ℕ', 'within i (z .learners)'), ('lid', 'LearnerId', 'record { 0 = li }'), ('l', 'Learner', 'getD ls li freshLearner'), ('x', 'Ear', 'earOf l (m .proposer .0)'), ('y', 'Listened', 'listenOf z e m x'),
         ('ls′', 'List Learner', 'set ls li (putEar l (m .proposer .0) (y .ear))'), ('t′', 'List Message', 'set t k (slotAfter (y .frees) m)'), ('r₀', 'Answer', 'y .answer')],
     facts=[('in-l', 'li < length ls', 'party-there i (z .learners) (length ls) (fit .1 .0) (bounds z (fit .1 .1 .0) .some-learners)'), ('in-k', 'k < length t', 'fit .1 .1 .1 .0')],
     after=['ls′', 't′'], says='(ear-says z e k m ls t (fit .0), (ear-left z e k m ls t (fit .0), ear-slots z e k m ls t (fit .0)))',
@@ -60,7 +62,7 @@ use Rattle.machine.proofs.Ears.{ear-says, ear-left, ear-slots}
 '''))
 w = Walk(f)
 w.call(step('party_of'), [4, 6], 7, 'u64', 'i')
-w.call(step('learner_at'), [1, 7], 8, 'usize', 'li')
+w.call(step('learner_at'), [1, 7], 8, 'LearnerId', 'lid', '(fit .1 .1 .0)')
 w.call(step('proposer_of'), [6], 9, 'ProposerId', '(m .proposer)')
 w.cut()
 w.shared(lent('load_ear'), 0, 14, 15, [8, 9], 10, 'Ear', 'x', 'in-l')
@@ -105,16 +107,16 @@ def left(lists):
 # a proposer that is told
 
 f = arm('told', ('Proposer', 'ps'),
-    locals=['u64', 'usize', 'Proposer', 'Decision', 'Proposer', 'Message', ('Proposer', 'imm'), 'unit', ('Proposer', 'mut'), ('Message', 'mut')],
+    locals=['u64', 'ProposerId', 'Proposer', 'Decision', 'Proposer', 'Message', ('Proposer', 'imm'), 'unit', ('Proposer', 'mut'), ('Message', 'mut')],
     temporaries=13,
-    definitions=[('i', 'ℕ', 'partyOf e m'), ('pi', 'ℕ', 'within i (z .proposers)'), ('q', 'Proposer', 'getD ps pi freshProposer'), ('f', 'Decision', 'finishOf (decideOf z e m q freshAcceptor freshLearner) 0 q freshAcceptor'),
+    definitions=[('i', 'ℕ', 'partyOf e m'), ('pi', 'ℕ', 'within i (z .proposers)'), ('pid', 'ProposerId', 'record { 0 = pi }'), ('q', 'Proposer', 'getD ps pi freshProposer'), ('f', 'Decision', 'finishOf (decideOf z e m q freshAcceptor freshLearner) 0 q freshAcceptor'),
         ('m′', 'Message', 'slotAfter (f .change .frees) m'), ('ps′', 'List Proposer', 'set ps pi (f .change .proposer)'), ('t′', 'List Message', 'set t k m′'), ('r₀', 'Answer', 'replyOf z e f m freshLearner')],
     facts=[('in-p', 'pi < length ps', 'party-there i (z .proposers) (length ps) (fit .1 .0) (bounds z (fit .1 .1 .0) .some-proposers)'), ('in-k', 'k < length t', 'fit .1 .1 .1 .0')],
     after=['ps′', 't′'], says='(told-says z e k m ps t (fit .0), (told-left z e k m ps t (fit .0), told-slots z e k m ps t (fit .0)))',
     uses=(OTHERS % 'OfTold', LAWS % 'told-says, told-left, told-slots, told-quiet'))
 w = Walk(f)
 w.call(step('party_of'), [4, 6], 7, 'u64', 'i')
-w.call(step('proposer_at'), [1, 7], 8, 'usize', 'pi')
+w.call(step('proposer_at'), [1, 7], 8, 'ProposerId', 'pid', '(fit .1 .1 .0)')
 w.cut()
 w.shared(lent('load_proposer'), 0, 13, 14, [8], 9, 'Proposer', 'q', 'in-p')
 w.call(step('tell'), [1, 4, 6, 9], 10, 'Decision', 'f', '(fit .0)')
@@ -135,9 +137,9 @@ def party(name, number, struct, short, slice, lists, at):
     """A party that decides and sends: its record in slice, found at the place p."""
     own = struct.lower()
     f = arm(name, (struct, slice),
-        locals=['u64', 'usize', struct, 'Decision', 'u8', 'u8', 'Decision', struct, 'Message', 'Send', (struct, 'imm'), ('Message', 'imm'), 'unit', (struct, 'mut'), ('Message', 'mut'), ('Message', 'mut')],
+        locals=['u64', struct + 'Id', struct, 'Decision', 'u8', 'u8', 'Decision', struct, 'Message', 'Send', (struct, 'imm'), ('Message', 'imm'), 'unit', (struct, 'mut'), ('Message', 'mut'), ('Message', 'mut')],
         temporaries=17,
-        definitions=[('i', 'ℕ', 'partyOf e m'), ('p', 'ℕ', 'within i (z .%ss)' % own), (short, struct, '%s z e k m %s t' % (at, lists))] + finished(lists) + left(lists)
+        definitions=[('i', 'ℕ', 'partyOf e m'), ('p', 'ℕ', 'within i (z .%ss)' % own), ('id', struct + 'Id', 'record { 0 = p }'), (short, struct, '%s z e k m %s t' % (at, lists))] + finished(lists) + left(lists)
         + [('own′', 'List ' + struct, 'set %s p (f .change .%s)' % (slice, own)), ('t′', 'List Message', 'post (itemsOf (f .change .send)) t₁'), ('r₀', 'Answer', 'replyOf z e f m freshLearner')],
         facts=[('in-p', 'p < length ' + slice, 'party-there i (z .%ss) (length %s) (fit .1 .0) (bounds z (fit .1 .1 .0) .some-%ss)' % (own, slice, own)), ('in-k', 'k < length t', 'fit .1 .1 .1 .0'),
             ('ready', 'Ready (f .change .send) t₁', 'ready-at z e k m %s t in-k (fit .1 .1 .1 .1)' % lists)],
@@ -145,7 +147,7 @@ def party(name, number, struct, short, slice, lists, at):
         uses=(OTHERS % ('Of' + name.capitalize()), LAWS % 'ready-at'))
     w = Walk(f)
     w.call(step('party_of'), [4, 6], 7, 'u64', 'i')
-    w.call(step(own + '_at'), [1, 7], 8, 'usize', 'p')
+    w.call(step(own + '_at'), [1, 7], 8, struct + 'Id', 'id', '(fit .1 .1 .0)')
     w.cut()
     w.shared(lent('load_' + own), 0, 17, 18, [8], 9, struct, short, 'in-p')
     w.call(step('decide_' + own), [1, 4, 6, 9], 10, 'Decision', 'd', '(fit .1 .1 .0, fit .0)')

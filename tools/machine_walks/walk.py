@@ -532,7 +532,7 @@ def parts(f, w):
         back += [2 * i, 2 * i + 1]
     tail = ['returns ! (look ! %d refl) $ ' % f.place(0) + ' '.join('forget ! %d refl $' % f.place(k) for k in range(f.count - 1, -1, -1) if k in w.value),
             ' '.join('move ! (%d ∷ %d ∷ []) $ free1 ! $' % (f.place(k), f.place(k) + 1) for k in range(f.count)) + ' free0 ! $',
-            'keep ! %s $ by ! (exits %s)' % (listed(back), ' '.join([w.known[0][2]] + [w.same[k] for k in range(len(f.slices)) if not f.shared[k]]))]
+            'keep ! %s $ by ! (exits %s)' % (listed(back), ' '.join([x for x in [w.known[0][2]] if x] + [w.same[k] for k in range(len(f.slices)) if not f.shared[k]]))]
     out = ''
     for j in range(len(w.parts) - 1, 0, -1):
         lines, closes, (context, given, at) = w.parts[j]

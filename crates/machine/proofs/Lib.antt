@@ -22,6 +22,7 @@ pub mod WalkedLoops
 pub mod Unchanged
 pub mod Roles
 pub mod Deciding
+pub mod Ids
 pub mod Ears
 pub mod Arms
 pub mod Parts

@@ -20,6 +20,8 @@ use model::Heard;
 use model::Learner;
 use model::Message;
 use model::Proposer;
+use sets::AcceptorId;
+use sets::LearnerId;
 use sets::ProposerId;
 use sets::scans::Scans;
 use sizes::Sizes;
@@ -71,7 +73,7 @@ fn held_in(p: ProposerId, x: Ear, there: Heard) -> Heard
 }
 
 // What a learner has of itself and of one proposer: the other places are not read.
-pub fn load_ear(t: &[Learner], i: usize, p: ProposerId) -> Ear
+fn ear_by(t: &[Learner], i: usize, p: ProposerId) -> Ear
     requires { ⌜ i < length (now t) ⌝ }
     ensures { λ r. ⌜ r ≡ earOf (getD (now (t .entry)) i freshLearner) (p .0) ⌝ }
 {
@@ -82,7 +84,7 @@ pub fn load_ear(t: &[Learner], i: usize, p: ProposerId) -> Ear
     ear_of(p, alive, learnt, there)
 }
 
-pub fn store_ear(t: &mut [Learner], i: usize, p: ProposerId, x: Ear)
+fn put_ear(t: &mut [Learner], i: usize, p: ProposerId, x: Ear)
     requires { ⌜ i < length (now t) ⌝ }
     ensures { λ _. ⌜ now (t .exit) ≡ set (now (t .entry)) i (putEar (getD (now (t .entry)) i freshLearner) (p .0) x) ⌝ }
 {
@@ -94,23 +96,16 @@ pub fn store_ear(t: &mut [Learner], i: usize, p: ProposerId, x: Ear)
     t[i].heard[at] = h;
 }
 
-pub fn load_proposer(t: &[Proposer], i: usize) -> Proposer
+fn proposer_by(t: &[Proposer], i: usize) -> Proposer
     requires { ⌜ i < length (now t) ⌝ }
     ensures { λ r. ⌜ r ≡ getD (now (t .entry)) i freshProposer ⌝ }
 {
     t[i]
 }
 
-pub fn load_acceptor(t: &[Acceptor], i: usize) -> Acceptor
+fn acceptor_by(t: &[Acceptor], i: usize) -> Acceptor
     requires { ⌜ i < length (now t) ⌝ }
     ensures { λ r. ⌜ r ≡ getD (now (t .entry)) i freshAcceptor ⌝ }
-{
-    t[i]
-}
-
-pub fn load_learner(t: &[Learner], i: usize) -> Learner
-    requires { ⌜ i < length (now t) ⌝ }
-    ensures { λ r. ⌜ r ≡ getD (now (t .entry)) i freshLearner ⌝ }
 {
     t[i]
 }
@@ -122,21 +117,14 @@ pub fn load_message(t: &[Message], i: usize) -> Message
     t[i]
 }
 
-pub fn store_proposer(t: &mut [Proposer], i: usize, m: Proposer)
+fn put_proposer(t: &mut [Proposer], i: usize, m: Proposer)
     requires { ⌜ i < length (now t) ⌝ }
     ensures { λ _. ⌜ now (t .exit) ≡ set (now (t .entry)) i m ⌝ }
 {
     t[i] = m;
 }
 
-pub fn store_acceptor(t: &mut [Acceptor], i: usize, m: Acceptor)
-    requires { ⌜ i < length (now t) ⌝ }
-    ensures { λ _. ⌜ now (t .exit) ≡ set (now (t .entry)) i m ⌝ }
-{
-    t[i] = m;
-}
-
-pub fn store_learner(t: &mut [Learner], i: usize, m: Learner)
+fn put_acceptor(t: &mut [Acceptor], i: usize, m: Acceptor)
     requires { ⌜ i < length (now t) ⌝ }
     ensures { λ _. ⌜ now (t .exit) ≡ set (now (t .entry)) i m ⌝ }
 {
@@ -148,6 +136,74 @@ pub fn store_message(t: &mut [Message], i: usize, m: Message)
     ensures { λ _. ⌜ now (t .exit) ≡ set (now (t .entry)) i m ⌝ }
 {
     t[i] = m;
+}
+
+// ---- by the number of a party, which is of its own type
+
+fn proposer_index(i: ProposerId) -> usize
+    ensures { λ r. ⌜ r ≡ i .0 ⌝ }
+{
+    i.0 as usize
+}
+
+fn acceptor_index(i: AcceptorId) -> usize
+    ensures { λ r. ⌜ r ≡ i .0 ⌝ }
+{
+    i.0 as usize
+}
+
+fn learner_index(i: LearnerId) -> usize
+    ensures { λ r. ⌜ r ≡ i .0 ⌝ }
+{
+    i.0 as usize
+}
+
+pub fn load_proposer(t: &[Proposer], i: ProposerId) -> Proposer
+    requires { ⌜ i .0 < length (now t) ⌝ }
+    ensures { λ r. ⌜ r ≡ getD (now (t .entry)) (i .0) freshProposer ⌝ }
+{
+    let at = proposer_index(i);
+    proposer_by(t, at)
+}
+
+pub fn store_proposer(t: &mut [Proposer], i: ProposerId, m: Proposer)
+    requires { ⌜ i .0 < length (now t) ⌝ }
+    ensures { λ _. ⌜ now (t .exit) ≡ set (now (t .entry)) (i .0) m ⌝ }
+{
+    let at = proposer_index(i);
+    put_proposer(t, at, m)
+}
+
+pub fn load_acceptor(t: &[Acceptor], i: AcceptorId) -> Acceptor
+    requires { ⌜ i .0 < length (now t) ⌝ }
+    ensures { λ r. ⌜ r ≡ getD (now (t .entry)) (i .0) freshAcceptor ⌝ }
+{
+    let at = acceptor_index(i);
+    acceptor_by(t, at)
+}
+
+pub fn store_acceptor(t: &mut [Acceptor], i: AcceptorId, m: Acceptor)
+    requires { ⌜ i .0 < length (now t) ⌝ }
+    ensures { λ _. ⌜ now (t .exit) ≡ set (now (t .entry)) (i .0) m ⌝ }
+{
+    let at = acceptor_index(i);
+    put_acceptor(t, at, m)
+}
+
+pub fn load_ear(t: &[Learner], i: LearnerId, p: ProposerId) -> Ear
+    requires { ⌜ i .0 < length (now t) ⌝ }
+    ensures { λ r. ⌜ r ≡ earOf (getD (now (t .entry)) (i .0) freshLearner) (p .0) ⌝ }
+{
+    let at = learner_index(i);
+    ear_by(t, at, p)
+}
+
+pub fn store_ear(t: &mut [Learner], i: LearnerId, p: ProposerId, x: Ear)
+    requires { ⌜ i .0 < length (now t) ⌝ }
+    ensures { λ _. ⌜ now (t .exit) ≡ set (now (t .entry)) (i .0) (putEar (getD (now (t .entry)) (i .0) freshLearner) (p .0) x) ⌝ }
+{
+    let at = learner_index(i);
+    put_ear(t, at, p, x)
 }
 
 // Whether every record is in range, for a run of these sizes.

@@ -47,6 +47,7 @@ use model::Event;
 use model::Learner;
 use model::Message;
 use model::Proposer;
+use sets::AcceptorId;
 use sets::LearnerId;
 use sets::ProposerId;
 use sizes::Sizes;
@@ -94,22 +95,31 @@ fn party_of(e: Event, m: Message) -> u64
     }
 }
 
-fn proposer_at(z: Sizes, i: u64) -> usize
-    ensures { λ r. ⌜ r ≡ within i (z .proposers) ⌝ }
+fn proposer_at(z: Sizes, i: u64) -> ProposerId
+    requires { ⌜ sizesInRange z ≡ true ⌝ }
+    ensures { λ r. ⌜ r ≡ record { 0 = within i (z .proposers) } ⌝ }
 {
-    within_of(i, z.proposers)
+    let at = within_of(i, z.proposers);
+    let number = at as u8;
+    ProposerId(number)
 }
 
-fn acceptor_at(z: Sizes, i: u64) -> usize
-    ensures { λ r. ⌜ r ≡ within i (z .acceptors) ⌝ }
+fn acceptor_at(z: Sizes, i: u64) -> AcceptorId
+    requires { ⌜ sizesInRange z ≡ true ⌝ }
+    ensures { λ r. ⌜ r ≡ record { 0 = within i (z .acceptors) } ⌝ }
 {
-    within_of(i, z.acceptors)
+    let at = within_of(i, z.acceptors);
+    let number = at as u8;
+    AcceptorId(number)
 }
 
-fn learner_at(z: Sizes, i: u64) -> usize
-    ensures { λ r. ⌜ r ≡ within i (z .learners) ⌝ }
+fn learner_at(z: Sizes, i: u64) -> LearnerId
+    requires { ⌜ sizesInRange z ≡ true ⌝ }
+    ensures { λ r. ⌜ r ≡ record { 0 = within i (z .learners) } ⌝ }
 {
-    within_of(i, z.learners)
+    let at = within_of(i, z.learners);
+    let number = at as u8;
+    LearnerId(number)
 }
 
 // ---- the arm that takes an event

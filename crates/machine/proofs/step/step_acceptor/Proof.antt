@@ -70,6 +70,9 @@ use Rattle.decisions.proofs.sending.Send.Laws as Sd′
 use Rattle.machine.specs.declared.step.Decision.{Decision}
 use Rattle.machine.proofs.step.Decision as Dn
 use Rattle.machine.proofs.step.Decision.Laws as Dn′
+use Rattle.sets.specs.declared.AcceptorId.{AcceptorId}
+use Rattle.sets.proofs.AcceptorId as Ai
+use Rattle.sets.proofs.AcceptorId.Laws as Ai′
 use Rattle.model.specs.declared.Answer.{Answer}
 use Rattle.model.proofs.Answer as An
 use Rattle.model.proofs.Answer.Laws as An′
@@ -171,6 +174,12 @@ valsDn = LL.vals Dn.the-type Dn′.the-laws
 abbrev valDn : Decision → Val
 valDn = LL.val Dn.the-type Dn′.the-laws
 
+abbrev valsAi : AcceptorId → List Val
+valsAi = LL.vals Ai.the-type Ai′.the-laws
+
+abbrev valAi : AcceptorId → Val
+valAi = LL.val Ai.the-type Ai′.the-laws
+
 abbrev valsAn : Answer → List Val
 valsAn = EL.vals An.the-type An′.the-laws
 
@@ -256,6 +265,9 @@ module _ {M : Type 1} (𝓤 : URA M) (H : Heap 𝓤) (A : Atoms 𝓤) (W : Given
   abbrev p : ℕ
   p = within i (z .acceptors)
 
+  abbrev id : AcceptorId
+  id = record { 0 = p }
+
   abbrev c : Acceptor
   c = acceptorAt z e k m [] acs [] t
 
@@ -325,6 +337,12 @@ module _ {M : Type 1} (𝓤 : URA M) (H : Heap 𝓤) (A : Atoms 𝓤) (W : Given
   makesDn : Makes 𝓤 H A Dn.the-row (Is Dn.the-row)
   makesDn = LL.makes Dn.the-type Dn′.the-plain 𝓤 H A
 
+  typedAi : (m : AcceptorId) → Is Ai.the-row m (valsAi m) → Holds (hasTy Ai′.mir (valAi m)) × WT (valAi m)
+  typedAi m is = LL.lawful Ai.the-type Ai′.the-laws 𝓤 H A W .typed m (valsAi m) is .0
+
+  makesAi : Makes 𝓤 H A Ai.the-row (Is Ai.the-row)
+  makesAi = LL.makes Ai.the-type Ai′.the-plain 𝓤 H A
+
   typedAn : (m : Answer) → Is An.the-row m (valsAn m) → Holds (hasTy An′.mir (valAn m)) × WT (valAn m)
   typedAn m is = EL.lawful An.the-type An′.the-laws 𝓤 H A W tt .typed m (valsAn m) is .0
 
@@ -351,10 +369,10 @@ module _ {M : Type 1} (𝓤 : URA M) (H : Heap 𝓤) (A : Atoms 𝓤) (W : Given
 
     module _ (l₀ l₁ l₂ l₃ l₄ l₅ l₆ l₇ l₈ l₉ l₁₀ l₁₁ l₁₂ l₁₃ l₁₄ l₁₅ l₁₆ l₁₇ l₁₈ l₁₉ l₂₀ l₂₁ l₂₂ l₂₃ l₂₄ l₂₅ l₂₆ l₂₇ : ℕ) where
       abbrev En : Env 𝓤 H
-      En = (An′.mir, l₀) ∷ (Sz′.mir, l₁) ∷ ((sliceTy (tyRef (named 0) mut (pointee (Ac.the-row .written)))), l₂) ∷ ((sliceTy (tyRef (named 1) mut (pointee (Ms.the-row .written)))), l₃) ∷ (Ev′.mir, l₄) ∷ (word, l₅) ∷ (Ms′.mir, l₆) ∷ (word, l₇) ∷ (word, l₈) ∷ (Ac′.mir, l₉) ∷ (Dn′.mir, l₁₀) ∷ (byte, l₁₁) ∷ (byte, l₁₂) ∷ (Dn′.mir, l₁₃) ∷ (Ac′.mir, l₁₄) ∷ (Ms′.mir, l₁₅) ∷ (Sd′.mir, l₁₆) ∷ ((tyRef erased imm (pointee (Ac.the-row .written))), l₁₇) ∷ ((sliceTy (tyRef erased imm (pointee (Ac.the-row .written)))), l₁₈) ∷ ((tyRef erased imm (pointee (Ms.the-row .written))), l₁₉) ∷ ((sliceTy (tyRef erased imm (pointee (Ms.the-row .written)))), l₂₀) ∷ (tyUnit, l₂₁) ∷ ((tyRef erased mut (pointee (Ac.the-row .written))), l₂₂) ∷ ((sliceTy (tyRef erased mut (pointee (Ac.the-row .written)))), l₂₃) ∷ ((tyRef erased mut (pointee (Ms.the-row .written))), l₂₄) ∷ ((sliceTy (tyRef erased mut (pointee (Ms.the-row .written)))), l₂₅) ∷ ((tyRef erased mut (pointee (Ms.the-row .written))), l₂₆) ∷ ((sliceTy (tyRef erased mut (pointee (Ms.the-row .written)))), l₂₇) ∷ []
+      En = (An′.mir, l₀) ∷ (Sz′.mir, l₁) ∷ ((sliceTy (tyRef (named 0) mut (pointee (Ac.the-row .written)))), l₂) ∷ ((sliceTy (tyRef (named 1) mut (pointee (Ms.the-row .written)))), l₃) ∷ (Ev′.mir, l₄) ∷ (word, l₅) ∷ (Ms′.mir, l₆) ∷ (word, l₇) ∷ (Ai′.mir, l₈) ∷ (Ac′.mir, l₉) ∷ (Dn′.mir, l₁₀) ∷ (byte, l₁₁) ∷ (byte, l₁₂) ∷ (Dn′.mir, l₁₃) ∷ (Ac′.mir, l₁₄) ∷ (Ms′.mir, l₁₅) ∷ (Sd′.mir, l₁₆) ∷ ((tyRef erased imm (pointee (Ac.the-row .written))), l₁₇) ∷ ((sliceTy (tyRef erased imm (pointee (Ac.the-row .written)))), l₁₈) ∷ ((tyRef erased imm (pointee (Ms.the-row .written))), l₁₉) ∷ ((sliceTy (tyRef erased imm (pointee (Ms.the-row .written)))), l₂₀) ∷ (tyUnit, l₂₁) ∷ ((tyRef erased mut (pointee (Ac.the-row .written))), l₂₂) ∷ ((sliceTy (tyRef erased mut (pointee (Ac.the-row .written)))), l₂₃) ∷ ((tyRef erased mut (pointee (Ms.the-row .written))), l₂₄) ∷ ((sliceTy (tyRef erased mut (pointee (Ms.the-row .written)))), l₂₅) ∷ ((tyRef erased mut (pointee (Ms.the-row .written))), l₂₆) ∷ ((sliceTy (tyRef erased mut (pointee (Ms.the-row .written)))), l₂₇) ∷ []
 
-      part-7 : (g7 : Is u64 i (uint-vals w64 i)) → (g8 : Is usize p (uint-vals w64 p)) → (g9 : Is Ac.the-row c (valsAc c)) → (g10 : Is Dn.the-row d (valsDn d)) → (g11 : Is u8 (d .need) (uint-vals w8 (d .need))) → (g12 : Is u8 (lacking (d .need) t) (uint-vals w8 (lacking (d .need) t))) → (g13 : Is Dn.the-row f (valsDn f)) → (g14 : Is Ac.the-row (f .change .acceptor) (valsAc (f .change .acceptor))) → (g15 : Is Ms.the-row m′ (valsMs m′)) → (g16 : Is Sd.the-row (f .change .send) (valsSd (f .change .send))) → (e23 : length own′ ≡ n₀) → (e27 : length t′ ≡ n₁) → Sq W (‵ (Slice Ms.the-row κ₁ γ₁ b₁ o₁ n₁ t′) ∷ ‵ (flft κ₁ q₁) ∷ ‵ (Slice Ac.the-row κ₀ γ₀ b₀ o₀ n₀ own′) ∷ ‵ (flft κ₀ q₀)
-          ∷ ‵ (froom (sliceTy (tyRef erased mut (pointee (Ms.the-row .written)))) l₂₇ 0) ∷ ‵ (fdies (sliceTy (tyRef erased mut (pointee (Ms.the-row .written)))) l₂₇) ∷ ‵ (froom (tyRef erased mut (pointee (Ms.the-row .written))) l₂₆ 0) ∷ ‵ (fdies (tyRef erased mut (pointee (Ms.the-row .written))) l₂₆) ∷ ‵ (froom (sliceTy (tyRef erased mut (pointee (Ms.the-row .written)))) l₂₅ 0) ∷ ‵ (fdies (sliceTy (tyRef erased mut (pointee (Ms.the-row .written)))) l₂₅) ∷ ‵ (froom (tyRef erased mut (pointee (Ms.the-row .written))) l₂₄ 0) ∷ ‵ (fdies (tyRef erased mut (pointee (Ms.the-row .written))) l₂₄) ∷ ‵ (froom (sliceTy (tyRef erased mut (pointee (Ac.the-row .written)))) l₂₃ 0) ∷ ‵ (fdies (sliceTy (tyRef erased mut (pointee (Ac.the-row .written)))) l₂₃) ∷ ‵ (froom (tyRef erased mut (pointee (Ac.the-row .written))) l₂₂ 0) ∷ ‵ (fdies (tyRef erased mut (pointee (Ac.the-row .written))) l₂₂) ∷ ‵ (froom tyUnit l₂₁ 0) ∷ ‵ (fdies tyUnit l₂₁) ∷ ‵ (froom (sliceTy (tyRef erased imm (pointee (Ms.the-row .written)))) l₂₀ 0) ∷ ‵ (fdies (sliceTy (tyRef erased imm (pointee (Ms.the-row .written)))) l₂₀) ∷ ‵ (froom (tyRef erased imm (pointee (Ms.the-row .written))) l₁₉ 0) ∷ ‵ (fdies (tyRef erased imm (pointee (Ms.the-row .written))) l₁₉) ∷ ‵ (froom (sliceTy (tyRef erased imm (pointee (Ac.the-row .written)))) l₁₈ 0) ∷ ‵ (fdies (sliceTy (tyRef erased imm (pointee (Ac.the-row .written)))) l₁₈) ∷ ‵ (froom (tyRef erased imm (pointee (Ac.the-row .written))) l₁₇ 0) ∷ ‵ (fdies (tyRef erased imm (pointee (Ac.the-row .written))) l₁₇) ∷ ‵ (fat fullShare Sd′.mir l₁₆ 0 (valSd (f .change .send))) ∷ ‵ (fdies Sd′.mir l₁₆) ∷ ‵ (fat fullShare Ms′.mir l₁₅ 0 (valMs m′)) ∷ ‵ (fdies Ms′.mir l₁₅) ∷ ‵ (fat fullShare Ac′.mir l₁₄ 0 (valAc (f .change .acceptor))) ∷ ‵ (fdies Ac′.mir l₁₄) ∷ ‵ (fat fullShare Dn′.mir l₁₃ 0 (valDn f)) ∷ ‵ (fdies Dn′.mir l₁₃) ∷ ‵ (fat fullShare byte l₁₂ 0 (vint w8 (lacking (d .need) t))) ∷ ‵ (fdies byte l₁₂) ∷ ‵ (fat fullShare byte l₁₁ 0 (vint w8 (d .need))) ∷ ‵ (fdies byte l₁₁) ∷ ‵ (fat fullShare Dn′.mir l₁₀ 0 (valDn d)) ∷ ‵ (fdies Dn′.mir l₁₀) ∷ ‵ (fat fullShare Ac′.mir l₉ 0 (valAc c)) ∷ ‵ (fdies Ac′.mir l₉) ∷ ‵ (fat fullShare word l₈ 0 (vint w64 p)) ∷ ‵ (fdies word l₈) ∷ ‵ (fat fullShare word l₇ 0 (vint w64 i)) ∷ ‵ (fdies word l₇) ∷ ‵ (fat fullShare Ms′.mir l₆ 0 (valMs m)) ∷ ‵ (fdies Ms′.mir l₆) ∷ ‵ (fat fullShare word l₅ 0 (vint w64 k)) ∷ ‵ (fdies word l₅) ∷ ‵ (fat fullShare Ev′.mir l₄ 0 (valEv e)) ∷ ‵ (fdies Ev′.mir l₄) ∷ ‵ (fat fullShare (sliceTy (tyRef (named 1) mut (pointee (Ms.the-row .written)))) l₃ 0 s₁) ∷ ‵ (fdies (sliceTy (tyRef (named 1) mut (pointee (Ms.the-row .written)))) l₃) ∷ ‵ (fat fullShare (sliceTy (tyRef (named 0) mut (pointee (Ac.the-row .written)))) l₂ 0 s₀) ∷ ‵ (fdies (sliceTy (tyRef (named 0) mut (pointee (Ac.the-row .written)))) l₂) ∷ ‵ (fat fullShare Sz′.mir l₁ 0 (valSz z)) ∷ ‵ (fdies Sz′.mir l₁) ∷ ‵ (froom An′.mir l₀ 0) ∷ ‵ (fdies An′.mir l₀) ∷ []) (runs C Λ En pieces.t-24 (atRet En Post))
+      part-7 : (g7 : Is u64 i (uint-vals w64 i)) → (g8 : Is Ai.the-row id (valsAi id)) → (g9 : Is Ac.the-row c (valsAc c)) → (g10 : Is Dn.the-row d (valsDn d)) → (g11 : Is u8 (d .need) (uint-vals w8 (d .need))) → (g12 : Is u8 (lacking (d .need) t) (uint-vals w8 (lacking (d .need) t))) → (g13 : Is Dn.the-row f (valsDn f)) → (g14 : Is Ac.the-row (f .change .acceptor) (valsAc (f .change .acceptor))) → (g15 : Is Ms.the-row m′ (valsMs m′)) → (g16 : Is Sd.the-row (f .change .send) (valsSd (f .change .send))) → (e23 : length own′ ≡ n₀) → (e27 : length t′ ≡ n₁) → Sq W (‵ (Slice Ms.the-row κ₁ γ₁ b₁ o₁ n₁ t′) ∷ ‵ (flft κ₁ q₁) ∷ ‵ (Slice Ac.the-row κ₀ γ₀ b₀ o₀ n₀ own′) ∷ ‵ (flft κ₀ q₀)
+          ∷ ‵ (froom (sliceTy (tyRef erased mut (pointee (Ms.the-row .written)))) l₂₇ 0) ∷ ‵ (fdies (sliceTy (tyRef erased mut (pointee (Ms.the-row .written)))) l₂₇) ∷ ‵ (froom (tyRef erased mut (pointee (Ms.the-row .written))) l₂₆ 0) ∷ ‵ (fdies (tyRef erased mut (pointee (Ms.the-row .written))) l₂₆) ∷ ‵ (froom (sliceTy (tyRef erased mut (pointee (Ms.the-row .written)))) l₂₅ 0) ∷ ‵ (fdies (sliceTy (tyRef erased mut (pointee (Ms.the-row .written)))) l₂₅) ∷ ‵ (froom (tyRef erased mut (pointee (Ms.the-row .written))) l₂₄ 0) ∷ ‵ (fdies (tyRef erased mut (pointee (Ms.the-row .written))) l₂₄) ∷ ‵ (froom (sliceTy (tyRef erased mut (pointee (Ac.the-row .written)))) l₂₃ 0) ∷ ‵ (fdies (sliceTy (tyRef erased mut (pointee (Ac.the-row .written)))) l₂₃) ∷ ‵ (froom (tyRef erased mut (pointee (Ac.the-row .written))) l₂₂ 0) ∷ ‵ (fdies (tyRef erased mut (pointee (Ac.the-row .written))) l₂₂) ∷ ‵ (froom tyUnit l₂₁ 0) ∷ ‵ (fdies tyUnit l₂₁) ∷ ‵ (froom (sliceTy (tyRef erased imm (pointee (Ms.the-row .written)))) l₂₀ 0) ∷ ‵ (fdies (sliceTy (tyRef erased imm (pointee (Ms.the-row .written)))) l₂₀) ∷ ‵ (froom (tyRef erased imm (pointee (Ms.the-row .written))) l₁₉ 0) ∷ ‵ (fdies (tyRef erased imm (pointee (Ms.the-row .written))) l₁₉) ∷ ‵ (froom (sliceTy (tyRef erased imm (pointee (Ac.the-row .written)))) l₁₈ 0) ∷ ‵ (fdies (sliceTy (tyRef erased imm (pointee (Ac.the-row .written)))) l₁₈) ∷ ‵ (froom (tyRef erased imm (pointee (Ac.the-row .written))) l₁₇ 0) ∷ ‵ (fdies (tyRef erased imm (pointee (Ac.the-row .written))) l₁₇) ∷ ‵ (fat fullShare Sd′.mir l₁₆ 0 (valSd (f .change .send))) ∷ ‵ (fdies Sd′.mir l₁₆) ∷ ‵ (fat fullShare Ms′.mir l₁₅ 0 (valMs m′)) ∷ ‵ (fdies Ms′.mir l₁₅) ∷ ‵ (fat fullShare Ac′.mir l₁₄ 0 (valAc (f .change .acceptor))) ∷ ‵ (fdies Ac′.mir l₁₄) ∷ ‵ (fat fullShare Dn′.mir l₁₃ 0 (valDn f)) ∷ ‵ (fdies Dn′.mir l₁₃) ∷ ‵ (fat fullShare byte l₁₂ 0 (vint w8 (lacking (d .need) t))) ∷ ‵ (fdies byte l₁₂) ∷ ‵ (fat fullShare byte l₁₁ 0 (vint w8 (d .need))) ∷ ‵ (fdies byte l₁₁) ∷ ‵ (fat fullShare Dn′.mir l₁₀ 0 (valDn d)) ∷ ‵ (fdies Dn′.mir l₁₀) ∷ ‵ (fat fullShare Ac′.mir l₉ 0 (valAc c)) ∷ ‵ (fdies Ac′.mir l₉) ∷ ‵ (fat fullShare Ai′.mir l₈ 0 (valAi id)) ∷ ‵ (fdies Ai′.mir l₈) ∷ ‵ (fat fullShare word l₇ 0 (vint w64 i)) ∷ ‵ (fdies word l₇) ∷ ‵ (fat fullShare Ms′.mir l₆ 0 (valMs m)) ∷ ‵ (fdies Ms′.mir l₆) ∷ ‵ (fat fullShare word l₅ 0 (vint w64 k)) ∷ ‵ (fdies word l₅) ∷ ‵ (fat fullShare Ev′.mir l₄ 0 (valEv e)) ∷ ‵ (fdies Ev′.mir l₄) ∷ ‵ (fat fullShare (sliceTy (tyRef (named 1) mut (pointee (Ms.the-row .written)))) l₃ 0 s₁) ∷ ‵ (fdies (sliceTy (tyRef (named 1) mut (pointee (Ms.the-row .written)))) l₃) ∷ ‵ (fat fullShare (sliceTy (tyRef (named 0) mut (pointee (Ac.the-row .written)))) l₂ 0 s₀) ∷ ‵ (fdies (sliceTy (tyRef (named 0) mut (pointee (Ac.the-row .written)))) l₂) ∷ ‵ (fat fullShare Sz′.mir l₁ 0 (valSz z)) ∷ ‵ (fdies Sz′.mir l₁) ∷ ‵ (froom An′.mir l₀ 0) ∷ ‵ (fdies An′.mir l₀) ∷ []) (runs C Λ En pieces.t-24 (atRet En Post))
       part-7 g7 g8 g9 g10 g11 g12 g13 g14 g15 g16 e23 e27 =
           calls-value ! fm (reply.signature .params) An.the-row (reply.ended .kept) (reply.clauses 𝓤 H A mem run) known-reply (valsSz, (valsEv, (valsDn, (valsMs, tt)))) (makesSz, (makesEv, (makesDn, (makesMs, tt)))) valAn (EL.tells An.the-type An′.the-laws)
           (z, (e, (f, (m, tt)))) (gz, (ge, (g13, (gm, tt)))) tt (factI 𝓤 _ (emp 𝓤) (quiet-finished z e k m [] acs [] t (not-of 2 3 (armOf e m) (fit .0) tt) .0)) r₀ (λ r e′. id⊢ 𝓤 (fact 𝓤 (r ≡ r₀))) (and-then ! (reads ! (from ! (stop !)) (look ! 57 refl)) (and-then ! (reads ! (from ! (stop !)) (look ! 51 refl)) (and-then ! (reads ! (from ! (stop !)) (look ! 33 refl)) (and-then ! (reads ! (from ! (stop !)) (look ! 47 refl)) (no-more !))))) (λ g0.
@@ -363,8 +381,8 @@ module _ {M : Type 1} (𝓤 : URA M) (H : Heap 𝓤) (A : Atoms 𝓤) (W : Given
           move ! (58 ∷ 59 ∷ []) $ free1 ! $ move ! (56 ∷ 57 ∷ []) $ free1 ! $ move ! (54 ∷ 55 ∷ []) $ free1 ! $ move ! (52 ∷ 53 ∷ []) $ free1 ! $ move ! (50 ∷ 51 ∷ []) $ free1 ! $ move ! (48 ∷ 49 ∷ []) $ free1 ! $ move ! (46 ∷ 47 ∷ []) $ free1 ! $ move ! (44 ∷ 45 ∷ []) $ free1 ! $ move ! (42 ∷ 43 ∷ []) $ free1 ! $ move ! (40 ∷ 41 ∷ []) $ free1 ! $ move ! (38 ∷ 39 ∷ []) $ free1 ! $ move ! (36 ∷ 37 ∷ []) $ free1 ! $ move ! (34 ∷ 35 ∷ []) $ free1 ! $ move ! (32 ∷ 33 ∷ []) $ free1 ! $ move ! (30 ∷ 31 ∷ []) $ free1 ! $ move ! (28 ∷ 29 ∷ []) $ free1 ! $ move ! (26 ∷ 27 ∷ []) $ free1 ! $ move ! (24 ∷ 25 ∷ []) $ free1 ! $ move ! (22 ∷ 23 ∷ []) $ free1 ! $ move ! (20 ∷ 21 ∷ []) $ free1 ! $ move ! (18 ∷ 19 ∷ []) $ free1 ! $ move ! (16 ∷ 17 ∷ []) $ free1 ! $ move ! (14 ∷ 15 ∷ []) $ free1 ! $ move ! (12 ∷ 13 ∷ []) $ free1 ! $ move ! (10 ∷ 11 ∷ []) $ free1 ! $ move ! (8 ∷ 9 ∷ []) $ free1 ! $ move ! (6 ∷ 7 ∷ []) $ free1 ! $ move ! (4 ∷ 5 ∷ []) $ free1 ! $ free0 ! $
           keep ! (2 ∷ 3 ∷ 0 ∷ 1 ∷ []) $ by ! (exits g0 e23 e27))
 
-      part-6 : (g7 : Is u64 i (uint-vals w64 i)) → (g8 : Is usize p (uint-vals w64 p)) → (g9 : Is Ac.the-row c (valsAc c)) → (g10 : Is Dn.the-row d (valsDn d)) → (g11 : Is u8 (d .need) (uint-vals w8 (d .need))) → (g12 : Is u8 (lacking (d .need) t) (uint-vals w8 (lacking (d .need) t))) → (g13 : Is Dn.the-row f (valsDn f)) → (g14 : Is Ac.the-row (f .change .acceptor) (valsAc (f .change .acceptor))) → (g15 : Is Ms.the-row m′ (valsMs m′)) → (e23 : length own′ ≡ n₀) → (e25 : length t₁ ≡ n₁) → Sq W (‵ (Slice Ms.the-row κ₁ γ₁ b₁ o₁ n₁ t₁) ∷ ‵ (flft κ₁ q₁) ∷ ‵ (Slice Ac.the-row κ₀ γ₀ b₀ o₀ n₀ own′) ∷ ‵ (flft κ₀ q₀)
-          ∷ ‵ (froom (sliceTy (tyRef erased mut (pointee (Ms.the-row .written)))) l₂₇ 0) ∷ ‵ (fdies (sliceTy (tyRef erased mut (pointee (Ms.the-row .written)))) l₂₇) ∷ ‵ (froom (tyRef erased mut (pointee (Ms.the-row .written))) l₂₆ 0) ∷ ‵ (fdies (tyRef erased mut (pointee (Ms.the-row .written))) l₂₆) ∷ ‵ (froom (sliceTy (tyRef erased mut (pointee (Ms.the-row .written)))) l₂₅ 0) ∷ ‵ (fdies (sliceTy (tyRef erased mut (pointee (Ms.the-row .written)))) l₂₅) ∷ ‵ (froom (tyRef erased mut (pointee (Ms.the-row .written))) l₂₄ 0) ∷ ‵ (fdies (tyRef erased mut (pointee (Ms.the-row .written))) l₂₄) ∷ ‵ (froom (sliceTy (tyRef erased mut (pointee (Ac.the-row .written)))) l₂₃ 0) ∷ ‵ (fdies (sliceTy (tyRef erased mut (pointee (Ac.the-row .written)))) l₂₃) ∷ ‵ (froom (tyRef erased mut (pointee (Ac.the-row .written))) l₂₂ 0) ∷ ‵ (fdies (tyRef erased mut (pointee (Ac.the-row .written))) l₂₂) ∷ ‵ (froom tyUnit l₂₁ 0) ∷ ‵ (fdies tyUnit l₂₁) ∷ ‵ (froom (sliceTy (tyRef erased imm (pointee (Ms.the-row .written)))) l₂₀ 0) ∷ ‵ (fdies (sliceTy (tyRef erased imm (pointee (Ms.the-row .written)))) l₂₀) ∷ ‵ (froom (tyRef erased imm (pointee (Ms.the-row .written))) l₁₉ 0) ∷ ‵ (fdies (tyRef erased imm (pointee (Ms.the-row .written))) l₁₉) ∷ ‵ (froom (sliceTy (tyRef erased imm (pointee (Ac.the-row .written)))) l₁₈ 0) ∷ ‵ (fdies (sliceTy (tyRef erased imm (pointee (Ac.the-row .written)))) l₁₈) ∷ ‵ (froom (tyRef erased imm (pointee (Ac.the-row .written))) l₁₇ 0) ∷ ‵ (fdies (tyRef erased imm (pointee (Ac.the-row .written))) l₁₇) ∷ ‵ (froom Sd′.mir l₁₆ 0) ∷ ‵ (fdies Sd′.mir l₁₆) ∷ ‵ (fat fullShare Ms′.mir l₁₅ 0 (valMs m′)) ∷ ‵ (fdies Ms′.mir l₁₅) ∷ ‵ (fat fullShare Ac′.mir l₁₄ 0 (valAc (f .change .acceptor))) ∷ ‵ (fdies Ac′.mir l₁₄) ∷ ‵ (fat fullShare Dn′.mir l₁₃ 0 (valDn f)) ∷ ‵ (fdies Dn′.mir l₁₃) ∷ ‵ (fat fullShare byte l₁₂ 0 (vint w8 (lacking (d .need) t))) ∷ ‵ (fdies byte l₁₂) ∷ ‵ (fat fullShare byte l₁₁ 0 (vint w8 (d .need))) ∷ ‵ (fdies byte l₁₁) ∷ ‵ (fat fullShare Dn′.mir l₁₀ 0 (valDn d)) ∷ ‵ (fdies Dn′.mir l₁₀) ∷ ‵ (fat fullShare Ac′.mir l₉ 0 (valAc c)) ∷ ‵ (fdies Ac′.mir l₉) ∷ ‵ (fat fullShare word l₈ 0 (vint w64 p)) ∷ ‵ (fdies word l₈) ∷ ‵ (fat fullShare word l₇ 0 (vint w64 i)) ∷ ‵ (fdies word l₇) ∷ ‵ (fat fullShare Ms′.mir l₆ 0 (valMs m)) ∷ ‵ (fdies Ms′.mir l₆) ∷ ‵ (fat fullShare word l₅ 0 (vint w64 k)) ∷ ‵ (fdies word l₅) ∷ ‵ (fat fullShare Ev′.mir l₄ 0 (valEv e)) ∷ ‵ (fdies Ev′.mir l₄) ∷ ‵ (fat fullShare (sliceTy (tyRef (named 1) mut (pointee (Ms.the-row .written)))) l₃ 0 s₁) ∷ ‵ (fdies (sliceTy (tyRef (named 1) mut (pointee (Ms.the-row .written)))) l₃) ∷ ‵ (fat fullShare (sliceTy (tyRef (named 0) mut (pointee (Ac.the-row .written)))) l₂ 0 s₀) ∷ ‵ (fdies (sliceTy (tyRef (named 0) mut (pointee (Ac.the-row .written)))) l₂) ∷ ‵ (fat fullShare Sz′.mir l₁ 0 (valSz z)) ∷ ‵ (fdies Sz′.mir l₁) ∷ ‵ (froom An′.mir l₀ 0) ∷ ‵ (fdies An′.mir l₀) ∷ []) (runs C Λ En pieces.t-20 (atRet En Post))
+      part-6 : (g7 : Is u64 i (uint-vals w64 i)) → (g8 : Is Ai.the-row id (valsAi id)) → (g9 : Is Ac.the-row c (valsAc c)) → (g10 : Is Dn.the-row d (valsDn d)) → (g11 : Is u8 (d .need) (uint-vals w8 (d .need))) → (g12 : Is u8 (lacking (d .need) t) (uint-vals w8 (lacking (d .need) t))) → (g13 : Is Dn.the-row f (valsDn f)) → (g14 : Is Ac.the-row (f .change .acceptor) (valsAc (f .change .acceptor))) → (g15 : Is Ms.the-row m′ (valsMs m′)) → (e23 : length own′ ≡ n₀) → (e25 : length t₁ ≡ n₁) → Sq W (‵ (Slice Ms.the-row κ₁ γ₁ b₁ o₁ n₁ t₁) ∷ ‵ (flft κ₁ q₁) ∷ ‵ (Slice Ac.the-row κ₀ γ₀ b₀ o₀ n₀ own′) ∷ ‵ (flft κ₀ q₀)
+          ∷ ‵ (froom (sliceTy (tyRef erased mut (pointee (Ms.the-row .written)))) l₂₇ 0) ∷ ‵ (fdies (sliceTy (tyRef erased mut (pointee (Ms.the-row .written)))) l₂₇) ∷ ‵ (froom (tyRef erased mut (pointee (Ms.the-row .written))) l₂₆ 0) ∷ ‵ (fdies (tyRef erased mut (pointee (Ms.the-row .written))) l₂₆) ∷ ‵ (froom (sliceTy (tyRef erased mut (pointee (Ms.the-row .written)))) l₂₅ 0) ∷ ‵ (fdies (sliceTy (tyRef erased mut (pointee (Ms.the-row .written)))) l₂₅) ∷ ‵ (froom (tyRef erased mut (pointee (Ms.the-row .written))) l₂₄ 0) ∷ ‵ (fdies (tyRef erased mut (pointee (Ms.the-row .written))) l₂₄) ∷ ‵ (froom (sliceTy (tyRef erased mut (pointee (Ac.the-row .written)))) l₂₃ 0) ∷ ‵ (fdies (sliceTy (tyRef erased mut (pointee (Ac.the-row .written)))) l₂₃) ∷ ‵ (froom (tyRef erased mut (pointee (Ac.the-row .written))) l₂₂ 0) ∷ ‵ (fdies (tyRef erased mut (pointee (Ac.the-row .written))) l₂₂) ∷ ‵ (froom tyUnit l₂₁ 0) ∷ ‵ (fdies tyUnit l₂₁) ∷ ‵ (froom (sliceTy (tyRef erased imm (pointee (Ms.the-row .written)))) l₂₀ 0) ∷ ‵ (fdies (sliceTy (tyRef erased imm (pointee (Ms.the-row .written)))) l₂₀) ∷ ‵ (froom (tyRef erased imm (pointee (Ms.the-row .written))) l₁₉ 0) ∷ ‵ (fdies (tyRef erased imm (pointee (Ms.the-row .written))) l₁₉) ∷ ‵ (froom (sliceTy (tyRef erased imm (pointee (Ac.the-row .written)))) l₁₈ 0) ∷ ‵ (fdies (sliceTy (tyRef erased imm (pointee (Ac.the-row .written)))) l₁₈) ∷ ‵ (froom (tyRef erased imm (pointee (Ac.the-row .written))) l₁₇ 0) ∷ ‵ (fdies (tyRef erased imm (pointee (Ac.the-row .written))) l₁₇) ∷ ‵ (froom Sd′.mir l₁₆ 0) ∷ ‵ (fdies Sd′.mir l₁₆) ∷ ‵ (fat fullShare Ms′.mir l₁₅ 0 (valMs m′)) ∷ ‵ (fdies Ms′.mir l₁₅) ∷ ‵ (fat fullShare Ac′.mir l₁₄ 0 (valAc (f .change .acceptor))) ∷ ‵ (fdies Ac′.mir l₁₄) ∷ ‵ (fat fullShare Dn′.mir l₁₃ 0 (valDn f)) ∷ ‵ (fdies Dn′.mir l₁₃) ∷ ‵ (fat fullShare byte l₁₂ 0 (vint w8 (lacking (d .need) t))) ∷ ‵ (fdies byte l₁₂) ∷ ‵ (fat fullShare byte l₁₁ 0 (vint w8 (d .need))) ∷ ‵ (fdies byte l₁₁) ∷ ‵ (fat fullShare Dn′.mir l₁₀ 0 (valDn d)) ∷ ‵ (fdies Dn′.mir l₁₀) ∷ ‵ (fat fullShare Ac′.mir l₉ 0 (valAc c)) ∷ ‵ (fdies Ac′.mir l₉) ∷ ‵ (fat fullShare Ai′.mir l₈ 0 (valAi id)) ∷ ‵ (fdies Ai′.mir l₈) ∷ ‵ (fat fullShare word l₇ 0 (vint w64 i)) ∷ ‵ (fdies word l₇) ∷ ‵ (fat fullShare Ms′.mir l₆ 0 (valMs m)) ∷ ‵ (fdies Ms′.mir l₆) ∷ ‵ (fat fullShare word l₅ 0 (vint w64 k)) ∷ ‵ (fdies word l₅) ∷ ‵ (fat fullShare Ev′.mir l₄ 0 (valEv e)) ∷ ‵ (fdies Ev′.mir l₄) ∷ ‵ (fat fullShare (sliceTy (tyRef (named 1) mut (pointee (Ms.the-row .written)))) l₃ 0 s₁) ∷ ‵ (fdies (sliceTy (tyRef (named 1) mut (pointee (Ms.the-row .written)))) l₃) ∷ ‵ (fat fullShare (sliceTy (tyRef (named 0) mut (pointee (Ac.the-row .written)))) l₂ 0 s₀) ∷ ‵ (fdies (sliceTy (tyRef (named 0) mut (pointee (Ac.the-row .written)))) l₂) ∷ ‵ (fat fullShare Sz′.mir l₁ 0 (valSz z)) ∷ ‵ (fdies Sz′.mir l₁) ∷ ‵ (froom An′.mir l₀ 0) ∷ ‵ (fdies An′.mir l₀) ∷ []) (runs C Λ En pieces.t-20 (atRet En Post))
       part-6 g7 g8 g9 g10 g11 g12 g13 g14 g15 e23 e25 =
           calls-value ! fm (send-in.signature .params) Sd.the-row (send-in.ended .kept) (send-in.clauses 𝓤 H A mem run) known-send-in (valsDn, tt) (makesDn, tt) valSd (LL.tells Sd.the-type Sd′.the-laws)
           (f, tt) (g13, tt) tt (id⊢ 𝓤 (emp 𝓤)) (f .change .send) (λ r e′. id⊢ 𝓤 (fact 𝓤 (r ≡ (f .change .send)))) (and-then ! (reads ! (from ! (stop !)) (look ! 33 refl)) (no-more !)) (λ g16.
@@ -379,8 +397,8 @@ module _ {M : Type 1} (𝓤 : URA M) (H : Heap 𝓤) (A : Atoms 𝓤) (W : Given
           forget ! 4 refl $
           part-7 g7 g8 g9 g10 g11 g12 g13 g14 g15 g16 e23 e27))
 
-      part-5 : (g7 : Is u64 i (uint-vals w64 i)) → (g8 : Is usize p (uint-vals w64 p)) → (g9 : Is Ac.the-row c (valsAc c)) → (g10 : Is Dn.the-row d (valsDn d)) → (g11 : Is u8 (d .need) (uint-vals w8 (d .need))) → (g12 : Is u8 (lacking (d .need) t) (uint-vals w8 (lacking (d .need) t))) → (g13 : Is Dn.the-row f (valsDn f)) → (g14 : Is Ac.the-row (f .change .acceptor) (valsAc (f .change .acceptor))) → (e23 : length own′ ≡ n₀) → Sq W (‵ (Slice Ac.the-row κ₀ γ₀ b₀ o₀ n₀ own′) ∷ ‵ (flft κ₀ q₀) ∷ ‵ (Slice Ms.the-row κ₁ γ₁ b₁ o₁ n₁ t) ∷ ‵ (flft κ₁ q₁)
-          ∷ ‵ (froom (sliceTy (tyRef erased mut (pointee (Ms.the-row .written)))) l₂₇ 0) ∷ ‵ (fdies (sliceTy (tyRef erased mut (pointee (Ms.the-row .written)))) l₂₇) ∷ ‵ (froom (tyRef erased mut (pointee (Ms.the-row .written))) l₂₆ 0) ∷ ‵ (fdies (tyRef erased mut (pointee (Ms.the-row .written))) l₂₆) ∷ ‵ (froom (sliceTy (tyRef erased mut (pointee (Ms.the-row .written)))) l₂₅ 0) ∷ ‵ (fdies (sliceTy (tyRef erased mut (pointee (Ms.the-row .written)))) l₂₅) ∷ ‵ (froom (tyRef erased mut (pointee (Ms.the-row .written))) l₂₄ 0) ∷ ‵ (fdies (tyRef erased mut (pointee (Ms.the-row .written))) l₂₄) ∷ ‵ (froom (sliceTy (tyRef erased mut (pointee (Ac.the-row .written)))) l₂₃ 0) ∷ ‵ (fdies (sliceTy (tyRef erased mut (pointee (Ac.the-row .written)))) l₂₃) ∷ ‵ (froom (tyRef erased mut (pointee (Ac.the-row .written))) l₂₂ 0) ∷ ‵ (fdies (tyRef erased mut (pointee (Ac.the-row .written))) l₂₂) ∷ ‵ (froom tyUnit l₂₁ 0) ∷ ‵ (fdies tyUnit l₂₁) ∷ ‵ (froom (sliceTy (tyRef erased imm (pointee (Ms.the-row .written)))) l₂₀ 0) ∷ ‵ (fdies (sliceTy (tyRef erased imm (pointee (Ms.the-row .written)))) l₂₀) ∷ ‵ (froom (tyRef erased imm (pointee (Ms.the-row .written))) l₁₉ 0) ∷ ‵ (fdies (tyRef erased imm (pointee (Ms.the-row .written))) l₁₉) ∷ ‵ (froom (sliceTy (tyRef erased imm (pointee (Ac.the-row .written)))) l₁₈ 0) ∷ ‵ (fdies (sliceTy (tyRef erased imm (pointee (Ac.the-row .written)))) l₁₈) ∷ ‵ (froom (tyRef erased imm (pointee (Ac.the-row .written))) l₁₇ 0) ∷ ‵ (fdies (tyRef erased imm (pointee (Ac.the-row .written))) l₁₇) ∷ ‵ (froom Sd′.mir l₁₆ 0) ∷ ‵ (fdies Sd′.mir l₁₆) ∷ ‵ (froom Ms′.mir l₁₅ 0) ∷ ‵ (fdies Ms′.mir l₁₅) ∷ ‵ (fat fullShare Ac′.mir l₁₄ 0 (valAc (f .change .acceptor))) ∷ ‵ (fdies Ac′.mir l₁₄) ∷ ‵ (fat fullShare Dn′.mir l₁₃ 0 (valDn f)) ∷ ‵ (fdies Dn′.mir l₁₃) ∷ ‵ (fat fullShare byte l₁₂ 0 (vint w8 (lacking (d .need) t))) ∷ ‵ (fdies byte l₁₂) ∷ ‵ (fat fullShare byte l₁₁ 0 (vint w8 (d .need))) ∷ ‵ (fdies byte l₁₁) ∷ ‵ (fat fullShare Dn′.mir l₁₀ 0 (valDn d)) ∷ ‵ (fdies Dn′.mir l₁₀) ∷ ‵ (fat fullShare Ac′.mir l₉ 0 (valAc c)) ∷ ‵ (fdies Ac′.mir l₉) ∷ ‵ (fat fullShare word l₈ 0 (vint w64 p)) ∷ ‵ (fdies word l₈) ∷ ‵ (fat fullShare word l₇ 0 (vint w64 i)) ∷ ‵ (fdies word l₇) ∷ ‵ (fat fullShare Ms′.mir l₆ 0 (valMs m)) ∷ ‵ (fdies Ms′.mir l₆) ∷ ‵ (fat fullShare word l₅ 0 (vint w64 k)) ∷ ‵ (fdies word l₅) ∷ ‵ (fat fullShare Ev′.mir l₄ 0 (valEv e)) ∷ ‵ (fdies Ev′.mir l₄) ∷ ‵ (fat fullShare (sliceTy (tyRef (named 1) mut (pointee (Ms.the-row .written)))) l₃ 0 s₁) ∷ ‵ (fdies (sliceTy (tyRef (named 1) mut (pointee (Ms.the-row .written)))) l₃) ∷ ‵ (fat fullShare (sliceTy (tyRef (named 0) mut (pointee (Ac.the-row .written)))) l₂ 0 s₀) ∷ ‵ (fdies (sliceTy (tyRef (named 0) mut (pointee (Ac.the-row .written)))) l₂) ∷ ‵ (fat fullShare Sz′.mir l₁ 0 (valSz z)) ∷ ‵ (fdies Sz′.mir l₁) ∷ ‵ (froom An′.mir l₀ 0) ∷ ‵ (fdies An′.mir l₀) ∷ []) (runs C Λ En pieces.t-16 (atRet En Post))
+      part-5 : (g7 : Is u64 i (uint-vals w64 i)) → (g8 : Is Ai.the-row id (valsAi id)) → (g9 : Is Ac.the-row c (valsAc c)) → (g10 : Is Dn.the-row d (valsDn d)) → (g11 : Is u8 (d .need) (uint-vals w8 (d .need))) → (g12 : Is u8 (lacking (d .need) t) (uint-vals w8 (lacking (d .need) t))) → (g13 : Is Dn.the-row f (valsDn f)) → (g14 : Is Ac.the-row (f .change .acceptor) (valsAc (f .change .acceptor))) → (e23 : length own′ ≡ n₀) → Sq W (‵ (Slice Ac.the-row κ₀ γ₀ b₀ o₀ n₀ own′) ∷ ‵ (flft κ₀ q₀) ∷ ‵ (Slice Ms.the-row κ₁ γ₁ b₁ o₁ n₁ t) ∷ ‵ (flft κ₁ q₁)
+          ∷ ‵ (froom (sliceTy (tyRef erased mut (pointee (Ms.the-row .written)))) l₂₇ 0) ∷ ‵ (fdies (sliceTy (tyRef erased mut (pointee (Ms.the-row .written)))) l₂₇) ∷ ‵ (froom (tyRef erased mut (pointee (Ms.the-row .written))) l₂₆ 0) ∷ ‵ (fdies (tyRef erased mut (pointee (Ms.the-row .written))) l₂₆) ∷ ‵ (froom (sliceTy (tyRef erased mut (pointee (Ms.the-row .written)))) l₂₅ 0) ∷ ‵ (fdies (sliceTy (tyRef erased mut (pointee (Ms.the-row .written)))) l₂₅) ∷ ‵ (froom (tyRef erased mut (pointee (Ms.the-row .written))) l₂₄ 0) ∷ ‵ (fdies (tyRef erased mut (pointee (Ms.the-row .written))) l₂₄) ∷ ‵ (froom (sliceTy (tyRef erased mut (pointee (Ac.the-row .written)))) l₂₃ 0) ∷ ‵ (fdies (sliceTy (tyRef erased mut (pointee (Ac.the-row .written)))) l₂₃) ∷ ‵ (froom (tyRef erased mut (pointee (Ac.the-row .written))) l₂₂ 0) ∷ ‵ (fdies (tyRef erased mut (pointee (Ac.the-row .written))) l₂₂) ∷ ‵ (froom tyUnit l₂₁ 0) ∷ ‵ (fdies tyUnit l₂₁) ∷ ‵ (froom (sliceTy (tyRef erased imm (pointee (Ms.the-row .written)))) l₂₀ 0) ∷ ‵ (fdies (sliceTy (tyRef erased imm (pointee (Ms.the-row .written)))) l₂₀) ∷ ‵ (froom (tyRef erased imm (pointee (Ms.the-row .written))) l₁₉ 0) ∷ ‵ (fdies (tyRef erased imm (pointee (Ms.the-row .written))) l₁₉) ∷ ‵ (froom (sliceTy (tyRef erased imm (pointee (Ac.the-row .written)))) l₁₈ 0) ∷ ‵ (fdies (sliceTy (tyRef erased imm (pointee (Ac.the-row .written)))) l₁₈) ∷ ‵ (froom (tyRef erased imm (pointee (Ac.the-row .written))) l₁₇ 0) ∷ ‵ (fdies (tyRef erased imm (pointee (Ac.the-row .written))) l₁₇) ∷ ‵ (froom Sd′.mir l₁₆ 0) ∷ ‵ (fdies Sd′.mir l₁₆) ∷ ‵ (froom Ms′.mir l₁₅ 0) ∷ ‵ (fdies Ms′.mir l₁₅) ∷ ‵ (fat fullShare Ac′.mir l₁₄ 0 (valAc (f .change .acceptor))) ∷ ‵ (fdies Ac′.mir l₁₄) ∷ ‵ (fat fullShare Dn′.mir l₁₃ 0 (valDn f)) ∷ ‵ (fdies Dn′.mir l₁₃) ∷ ‵ (fat fullShare byte l₁₂ 0 (vint w8 (lacking (d .need) t))) ∷ ‵ (fdies byte l₁₂) ∷ ‵ (fat fullShare byte l₁₁ 0 (vint w8 (d .need))) ∷ ‵ (fdies byte l₁₁) ∷ ‵ (fat fullShare Dn′.mir l₁₀ 0 (valDn d)) ∷ ‵ (fdies Dn′.mir l₁₀) ∷ ‵ (fat fullShare Ac′.mir l₉ 0 (valAc c)) ∷ ‵ (fdies Ac′.mir l₉) ∷ ‵ (fat fullShare Ai′.mir l₈ 0 (valAi id)) ∷ ‵ (fdies Ai′.mir l₈) ∷ ‵ (fat fullShare word l₇ 0 (vint w64 i)) ∷ ‵ (fdies word l₇) ∷ ‵ (fat fullShare Ms′.mir l₆ 0 (valMs m)) ∷ ‵ (fdies Ms′.mir l₆) ∷ ‵ (fat fullShare word l₅ 0 (vint w64 k)) ∷ ‵ (fdies word l₅) ∷ ‵ (fat fullShare Ev′.mir l₄ 0 (valEv e)) ∷ ‵ (fdies Ev′.mir l₄) ∷ ‵ (fat fullShare (sliceTy (tyRef (named 1) mut (pointee (Ms.the-row .written)))) l₃ 0 s₁) ∷ ‵ (fdies (sliceTy (tyRef (named 1) mut (pointee (Ms.the-row .written)))) l₃) ∷ ‵ (fat fullShare (sliceTy (tyRef (named 0) mut (pointee (Ac.the-row .written)))) l₂ 0 s₀) ∷ ‵ (fdies (sliceTy (tyRef (named 0) mut (pointee (Ac.the-row .written)))) l₂) ∷ ‵ (fat fullShare Sz′.mir l₁ 0 (valSz z)) ∷ ‵ (fdies Sz′.mir l₁) ∷ ‵ (froom An′.mir l₀ 0) ∷ ‵ (fdies An′.mir l₀) ∷ []) (runs C Λ En pieces.t-16 (atRet En Post))
       part-5 g7 g8 g9 g10 g11 g12 g13 g14 e23 =
           calls-value ! fm (slot-in.signature .params) Ms.the-row (slot-in.ended .kept) (slot-in.clauses 𝓤 H A mem run) known-slot-in (valsDn, (valsMs, tt)) (makesDn, (makesMs, tt)) valMs (LL.tells Ms.the-type Ms′.the-laws)
           (f, (m, tt)) (g13, (gm, tt)) tt (id⊢ 𝓤 (emp 𝓤)) m′ (λ r e′. id⊢ 𝓤 (fact 𝓤 (r ≡ m′))) (and-then ! (reads ! (from ! (stop !)) (look ! 33 refl)) (and-then ! (reads ! (from ! (stop !)) (look ! 47 refl)) (no-more !))) (λ g15.
@@ -396,8 +414,8 @@ module _ {M : Type 1} (𝓤 : URA M) (H : Heap 𝓤) (A : Atoms 𝓤) (W : Given
           forget ! 8 refl $
           part-6 g7 g8 g9 g10 g11 g12 g13 g14 g15 e23 e25))
 
-      part-4 : (g7 : Is u64 i (uint-vals w64 i)) → (g8 : Is usize p (uint-vals w64 p)) → (g9 : Is Ac.the-row c (valsAc c)) → (g10 : Is Dn.the-row d (valsDn d)) → (g11 : Is u8 (d .need) (uint-vals w8 (d .need))) → (g12 : Is u8 (lacking (d .need) t) (uint-vals w8 (lacking (d .need) t))) → Sq W (‵ (Slice Ms.the-row κ₁ γ₁ b₁ o₁ n₁ t) ∷ ‵ (flft κ₁ q₁) ∷ ‵ (Slice Ac.the-row κ₀ γ₀ b₀ o₀ n₀ acs) ∷ ‵ (flft κ₀ q₀)
-          ∷ ‵ (froom (sliceTy (tyRef erased mut (pointee (Ms.the-row .written)))) l₂₇ 0) ∷ ‵ (fdies (sliceTy (tyRef erased mut (pointee (Ms.the-row .written)))) l₂₇) ∷ ‵ (froom (tyRef erased mut (pointee (Ms.the-row .written))) l₂₆ 0) ∷ ‵ (fdies (tyRef erased mut (pointee (Ms.the-row .written))) l₂₆) ∷ ‵ (froom (sliceTy (tyRef erased mut (pointee (Ms.the-row .written)))) l₂₅ 0) ∷ ‵ (fdies (sliceTy (tyRef erased mut (pointee (Ms.the-row .written)))) l₂₅) ∷ ‵ (froom (tyRef erased mut (pointee (Ms.the-row .written))) l₂₄ 0) ∷ ‵ (fdies (tyRef erased mut (pointee (Ms.the-row .written))) l₂₄) ∷ ‵ (froom (sliceTy (tyRef erased mut (pointee (Ac.the-row .written)))) l₂₃ 0) ∷ ‵ (fdies (sliceTy (tyRef erased mut (pointee (Ac.the-row .written)))) l₂₃) ∷ ‵ (froom (tyRef erased mut (pointee (Ac.the-row .written))) l₂₂ 0) ∷ ‵ (fdies (tyRef erased mut (pointee (Ac.the-row .written))) l₂₂) ∷ ‵ (froom tyUnit l₂₁ 0) ∷ ‵ (fdies tyUnit l₂₁) ∷ ‵ (froom (sliceTy (tyRef erased imm (pointee (Ms.the-row .written)))) l₂₀ 0) ∷ ‵ (fdies (sliceTy (tyRef erased imm (pointee (Ms.the-row .written)))) l₂₀) ∷ ‵ (froom (tyRef erased imm (pointee (Ms.the-row .written))) l₁₉ 0) ∷ ‵ (fdies (tyRef erased imm (pointee (Ms.the-row .written))) l₁₉) ∷ ‵ (froom (sliceTy (tyRef erased imm (pointee (Ac.the-row .written)))) l₁₈ 0) ∷ ‵ (fdies (sliceTy (tyRef erased imm (pointee (Ac.the-row .written)))) l₁₈) ∷ ‵ (froom (tyRef erased imm (pointee (Ac.the-row .written))) l₁₇ 0) ∷ ‵ (fdies (tyRef erased imm (pointee (Ac.the-row .written))) l₁₇) ∷ ‵ (froom Sd′.mir l₁₆ 0) ∷ ‵ (fdies Sd′.mir l₁₆) ∷ ‵ (froom Ms′.mir l₁₅ 0) ∷ ‵ (fdies Ms′.mir l₁₅) ∷ ‵ (froom Ac′.mir l₁₄ 0) ∷ ‵ (fdies Ac′.mir l₁₄) ∷ ‵ (froom Dn′.mir l₁₃ 0) ∷ ‵ (fdies Dn′.mir l₁₃) ∷ ‵ (fat fullShare byte l₁₂ 0 (vint w8 (lacking (d .need) t))) ∷ ‵ (fdies byte l₁₂) ∷ ‵ (fat fullShare byte l₁₁ 0 (vint w8 (d .need))) ∷ ‵ (fdies byte l₁₁) ∷ ‵ (fat fullShare Dn′.mir l₁₀ 0 (valDn d)) ∷ ‵ (fdies Dn′.mir l₁₀) ∷ ‵ (fat fullShare Ac′.mir l₉ 0 (valAc c)) ∷ ‵ (fdies Ac′.mir l₉) ∷ ‵ (fat fullShare word l₈ 0 (vint w64 p)) ∷ ‵ (fdies word l₈) ∷ ‵ (fat fullShare word l₇ 0 (vint w64 i)) ∷ ‵ (fdies word l₇) ∷ ‵ (fat fullShare Ms′.mir l₆ 0 (valMs m)) ∷ ‵ (fdies Ms′.mir l₆) ∷ ‵ (fat fullShare word l₅ 0 (vint w64 k)) ∷ ‵ (fdies word l₅) ∷ ‵ (fat fullShare Ev′.mir l₄ 0 (valEv e)) ∷ ‵ (fdies Ev′.mir l₄) ∷ ‵ (fat fullShare (sliceTy (tyRef (named 1) mut (pointee (Ms.the-row .written)))) l₃ 0 s₁) ∷ ‵ (fdies (sliceTy (tyRef (named 1) mut (pointee (Ms.the-row .written)))) l₃) ∷ ‵ (fat fullShare (sliceTy (tyRef (named 0) mut (pointee (Ac.the-row .written)))) l₂ 0 s₀) ∷ ‵ (fdies (sliceTy (tyRef (named 0) mut (pointee (Ac.the-row .written)))) l₂) ∷ ‵ (fat fullShare Sz′.mir l₁ 0 (valSz z)) ∷ ‵ (fdies Sz′.mir l₁) ∷ ‵ (froom An′.mir l₀ 0) ∷ ‵ (fdies An′.mir l₀) ∷ []) (runs C Λ En pieces.t-11 (atRet En Post))
+      part-4 : (g7 : Is u64 i (uint-vals w64 i)) → (g8 : Is Ai.the-row id (valsAi id)) → (g9 : Is Ac.the-row c (valsAc c)) → (g10 : Is Dn.the-row d (valsDn d)) → (g11 : Is u8 (d .need) (uint-vals w8 (d .need))) → (g12 : Is u8 (lacking (d .need) t) (uint-vals w8 (lacking (d .need) t))) → Sq W (‵ (Slice Ms.the-row κ₁ γ₁ b₁ o₁ n₁ t) ∷ ‵ (flft κ₁ q₁) ∷ ‵ (Slice Ac.the-row κ₀ γ₀ b₀ o₀ n₀ acs) ∷ ‵ (flft κ₀ q₀)
+          ∷ ‵ (froom (sliceTy (tyRef erased mut (pointee (Ms.the-row .written)))) l₂₇ 0) ∷ ‵ (fdies (sliceTy (tyRef erased mut (pointee (Ms.the-row .written)))) l₂₇) ∷ ‵ (froom (tyRef erased mut (pointee (Ms.the-row .written))) l₂₆ 0) ∷ ‵ (fdies (tyRef erased mut (pointee (Ms.the-row .written))) l₂₆) ∷ ‵ (froom (sliceTy (tyRef erased mut (pointee (Ms.the-row .written)))) l₂₅ 0) ∷ ‵ (fdies (sliceTy (tyRef erased mut (pointee (Ms.the-row .written)))) l₂₅) ∷ ‵ (froom (tyRef erased mut (pointee (Ms.the-row .written))) l₂₄ 0) ∷ ‵ (fdies (tyRef erased mut (pointee (Ms.the-row .written))) l₂₄) ∷ ‵ (froom (sliceTy (tyRef erased mut (pointee (Ac.the-row .written)))) l₂₃ 0) ∷ ‵ (fdies (sliceTy (tyRef erased mut (pointee (Ac.the-row .written)))) l₂₃) ∷ ‵ (froom (tyRef erased mut (pointee (Ac.the-row .written))) l₂₂ 0) ∷ ‵ (fdies (tyRef erased mut (pointee (Ac.the-row .written))) l₂₂) ∷ ‵ (froom tyUnit l₂₁ 0) ∷ ‵ (fdies tyUnit l₂₁) ∷ ‵ (froom (sliceTy (tyRef erased imm (pointee (Ms.the-row .written)))) l₂₀ 0) ∷ ‵ (fdies (sliceTy (tyRef erased imm (pointee (Ms.the-row .written)))) l₂₀) ∷ ‵ (froom (tyRef erased imm (pointee (Ms.the-row .written))) l₁₉ 0) ∷ ‵ (fdies (tyRef erased imm (pointee (Ms.the-row .written))) l₁₉) ∷ ‵ (froom (sliceTy (tyRef erased imm (pointee (Ac.the-row .written)))) l₁₈ 0) ∷ ‵ (fdies (sliceTy (tyRef erased imm (pointee (Ac.the-row .written)))) l₁₈) ∷ ‵ (froom (tyRef erased imm (pointee (Ac.the-row .written))) l₁₇ 0) ∷ ‵ (fdies (tyRef erased imm (pointee (Ac.the-row .written))) l₁₇) ∷ ‵ (froom Sd′.mir l₁₆ 0) ∷ ‵ (fdies Sd′.mir l₁₆) ∷ ‵ (froom Ms′.mir l₁₅ 0) ∷ ‵ (fdies Ms′.mir l₁₅) ∷ ‵ (froom Ac′.mir l₁₄ 0) ∷ ‵ (fdies Ac′.mir l₁₄) ∷ ‵ (froom Dn′.mir l₁₃ 0) ∷ ‵ (fdies Dn′.mir l₁₃) ∷ ‵ (fat fullShare byte l₁₂ 0 (vint w8 (lacking (d .need) t))) ∷ ‵ (fdies byte l₁₂) ∷ ‵ (fat fullShare byte l₁₁ 0 (vint w8 (d .need))) ∷ ‵ (fdies byte l₁₁) ∷ ‵ (fat fullShare Dn′.mir l₁₀ 0 (valDn d)) ∷ ‵ (fdies Dn′.mir l₁₀) ∷ ‵ (fat fullShare Ac′.mir l₉ 0 (valAc c)) ∷ ‵ (fdies Ac′.mir l₉) ∷ ‵ (fat fullShare Ai′.mir l₈ 0 (valAi id)) ∷ ‵ (fdies Ai′.mir l₈) ∷ ‵ (fat fullShare word l₇ 0 (vint w64 i)) ∷ ‵ (fdies word l₇) ∷ ‵ (fat fullShare Ms′.mir l₆ 0 (valMs m)) ∷ ‵ (fdies Ms′.mir l₆) ∷ ‵ (fat fullShare word l₅ 0 (vint w64 k)) ∷ ‵ (fdies word l₅) ∷ ‵ (fat fullShare Ev′.mir l₄ 0 (valEv e)) ∷ ‵ (fdies Ev′.mir l₄) ∷ ‵ (fat fullShare (sliceTy (tyRef (named 1) mut (pointee (Ms.the-row .written)))) l₃ 0 s₁) ∷ ‵ (fdies (sliceTy (tyRef (named 1) mut (pointee (Ms.the-row .written)))) l₃) ∷ ‵ (fat fullShare (sliceTy (tyRef (named 0) mut (pointee (Ac.the-row .written)))) l₂ 0 s₀) ∷ ‵ (fdies (sliceTy (tyRef (named 0) mut (pointee (Ac.the-row .written)))) l₂) ∷ ‵ (fat fullShare Sz′.mir l₁ 0 (valSz z)) ∷ ‵ (fdies Sz′.mir l₁) ∷ ‵ (froom An′.mir l₀ 0) ∷ ‵ (fdies An′.mir l₀) ∷ []) (runs C Λ En pieces.t-11 (atRet En Post))
       part-4 g7 g8 g9 g10 g11 g12 =
           calls-value ! fm (finish-acceptor.signature .params) Dn.the-row (finish-acceptor.ended .kept) (finish-acceptor.clauses 𝓤 H A mem run) known-finish-acceptor (valsDn, (uint-vals w8, (valsAc, tt))) (makesDn, (uint-makes 𝓤 H A W w8, (makesAc, tt))) valDn (LL.tells Dn.the-type Dn′.the-laws)
           (d, ((lacking (d .need) t), (c, tt))) (g10, (g12, (g9, tt))) tt (id⊢ 𝓤 (emp 𝓤)) f (λ r e′. id⊢ 𝓤 (fact 𝓤 (r ≡ f))) (and-then ! (reads ! (from ! (stop !)) (look ! 39 refl)) (and-then ! (reads ! (from ! (stop !)) (look ! 35 refl)) (and-then ! (reads ! (from ! (stop !)) (look ! 41 refl)) (no-more !)))) (λ g13.
@@ -408,7 +426,7 @@ module _ {M : Type 1} (𝓤 : URA M) (H : Heap 𝓤) (A : Atoms 𝓤) (W : Given
           assigns ! (addr ! (from ! (fld ! refl (hop ! (look-in ! 54 (sub ! 0 refl (whole !))) (stop !))))) (from ! (stop !)) (init ! 14 refl (tt, tt)) $
           assigns ! (agg ! (and-then ! (reads ! (from ! (stop !)) (look ! 14 refl)) (and-then ! (reads ! (from ! (fld ! refl (stop !))) (look-in ! 54 (sub ! 1 refl (whole !)))) (no-more !)))) (from ! (stop !)) (init ! 12 refl (tt, (tt, (record { fits = room₀ .0 }, tt)))) $
           move ! (2 ∷ 3 ∷ []) $
-          calls-lent ! fm Ac.the-row (plain (λ _. usize) ∷ plain (λ _. Ac.the-row) ∷ []) Nothing (yes, (yes, tt)) (λ _. vunit) nothing-tells b₀ o₀ n₀ acs refl (λ ν. (uint-vals w64, (valsAc, tt))) (λ ν. (uint-makes 𝓤 H A W w64, (makesAc, tt))) (λ ν. (p, ((f .change .acceptor), tt))) (λ ν. (g8, (g14, tt)))
+          calls-lent ! fm Ac.the-row (plain (λ _. Ai.the-row) ∷ plain (λ _. Ac.the-row) ∷ []) Nothing (yes, (yes, tt)) (λ _. vunit) nothing-tells b₀ o₀ n₀ acs refl (λ ν. (valsAi, (valsAc, tt))) (λ ν. (makesAi, (makesAc, tt))) (λ ν. (id, ((f .change .acceptor), tt))) (λ ν. (g8, (g14, tt)))
           (store-acceptor.clauses 𝓤 H A mem run) known-store-acceptor room₀ tt own′ (λ ν δ. tt) (λ ν δ. factI 𝓤 _ (emp 𝓤) in-p) (λ ν δ r ws. fact-mono 𝓤 (ws .0 ≡ own′) ((r ≡ tt) × (ws .0 ≡ own′)) (λ e′. (refl, e′))) (λ ν δ. (and-then ! (reads ! (from ! (stop !)) (look ! 12 refl)) (and-then ! (reads ! (from ! (stop !)) (look ! 42 refl)) (and-then ! (reads ! (from ! (stop !)) (look ! 30 refl)) (no-more !))))) (λ _ e23.
           land ! (from ! (stop !)) (init ! 16 refl (tt, tt)) $
           forget ! 16 refl $
@@ -416,8 +434,8 @@ module _ {M : Type 1} (𝓤 : URA M) (H : Heap 𝓤) (A : Atoms 𝓤) (W : Given
           forget ! 12 refl $
           part-5 g7 g8 g9 g10 g11 g12 g13 g14 e23)))
 
-      part-3 : (g7 : Is u64 i (uint-vals w64 i)) → (g8 : Is usize p (uint-vals w64 p)) → (g9 : Is Ac.the-row c (valsAc c)) → (g10 : Is Dn.the-row d (valsDn d)) → Sq W (‵ (Slice Ac.the-row κ₀ γ₀ b₀ o₀ n₀ acs) ∷ ‵ (flft κ₀ q₀) ∷ ‵ (Slice Ms.the-row κ₁ γ₁ b₁ o₁ n₁ t) ∷ ‵ (flft κ₁ q₁)
-          ∷ ‵ (froom (sliceTy (tyRef erased mut (pointee (Ms.the-row .written)))) l₂₇ 0) ∷ ‵ (fdies (sliceTy (tyRef erased mut (pointee (Ms.the-row .written)))) l₂₇) ∷ ‵ (froom (tyRef erased mut (pointee (Ms.the-row .written))) l₂₆ 0) ∷ ‵ (fdies (tyRef erased mut (pointee (Ms.the-row .written))) l₂₆) ∷ ‵ (froom (sliceTy (tyRef erased mut (pointee (Ms.the-row .written)))) l₂₅ 0) ∷ ‵ (fdies (sliceTy (tyRef erased mut (pointee (Ms.the-row .written)))) l₂₅) ∷ ‵ (froom (tyRef erased mut (pointee (Ms.the-row .written))) l₂₄ 0) ∷ ‵ (fdies (tyRef erased mut (pointee (Ms.the-row .written))) l₂₄) ∷ ‵ (froom (sliceTy (tyRef erased mut (pointee (Ac.the-row .written)))) l₂₃ 0) ∷ ‵ (fdies (sliceTy (tyRef erased mut (pointee (Ac.the-row .written)))) l₂₃) ∷ ‵ (froom (tyRef erased mut (pointee (Ac.the-row .written))) l₂₂ 0) ∷ ‵ (fdies (tyRef erased mut (pointee (Ac.the-row .written))) l₂₂) ∷ ‵ (froom tyUnit l₂₁ 0) ∷ ‵ (fdies tyUnit l₂₁) ∷ ‵ (froom (sliceTy (tyRef erased imm (pointee (Ms.the-row .written)))) l₂₀ 0) ∷ ‵ (fdies (sliceTy (tyRef erased imm (pointee (Ms.the-row .written)))) l₂₀) ∷ ‵ (froom (tyRef erased imm (pointee (Ms.the-row .written))) l₁₉ 0) ∷ ‵ (fdies (tyRef erased imm (pointee (Ms.the-row .written))) l₁₉) ∷ ‵ (froom (sliceTy (tyRef erased imm (pointee (Ac.the-row .written)))) l₁₈ 0) ∷ ‵ (fdies (sliceTy (tyRef erased imm (pointee (Ac.the-row .written)))) l₁₈) ∷ ‵ (froom (tyRef erased imm (pointee (Ac.the-row .written))) l₁₇ 0) ∷ ‵ (fdies (tyRef erased imm (pointee (Ac.the-row .written))) l₁₇) ∷ ‵ (froom Sd′.mir l₁₆ 0) ∷ ‵ (fdies Sd′.mir l₁₆) ∷ ‵ (froom Ms′.mir l₁₅ 0) ∷ ‵ (fdies Ms′.mir l₁₅) ∷ ‵ (froom Ac′.mir l₁₄ 0) ∷ ‵ (fdies Ac′.mir l₁₄) ∷ ‵ (froom Dn′.mir l₁₃ 0) ∷ ‵ (fdies Dn′.mir l₁₃) ∷ ‵ (froom byte l₁₂ 0) ∷ ‵ (fdies byte l₁₂) ∷ ‵ (froom byte l₁₁ 0) ∷ ‵ (fdies byte l₁₁) ∷ ‵ (fat fullShare Dn′.mir l₁₀ 0 (valDn d)) ∷ ‵ (fdies Dn′.mir l₁₀) ∷ ‵ (fat fullShare Ac′.mir l₉ 0 (valAc c)) ∷ ‵ (fdies Ac′.mir l₉) ∷ ‵ (fat fullShare word l₈ 0 (vint w64 p)) ∷ ‵ (fdies word l₈) ∷ ‵ (fat fullShare word l₇ 0 (vint w64 i)) ∷ ‵ (fdies word l₇) ∷ ‵ (fat fullShare Ms′.mir l₆ 0 (valMs m)) ∷ ‵ (fdies Ms′.mir l₆) ∷ ‵ (fat fullShare word l₅ 0 (vint w64 k)) ∷ ‵ (fdies word l₅) ∷ ‵ (fat fullShare Ev′.mir l₄ 0 (valEv e)) ∷ ‵ (fdies Ev′.mir l₄) ∷ ‵ (fat fullShare (sliceTy (tyRef (named 1) mut (pointee (Ms.the-row .written)))) l₃ 0 s₁) ∷ ‵ (fdies (sliceTy (tyRef (named 1) mut (pointee (Ms.the-row .written)))) l₃) ∷ ‵ (fat fullShare (sliceTy (tyRef (named 0) mut (pointee (Ac.the-row .written)))) l₂ 0 s₀) ∷ ‵ (fdies (sliceTy (tyRef (named 0) mut (pointee (Ac.the-row .written)))) l₂) ∷ ‵ (fat fullShare Sz′.mir l₁ 0 (valSz z)) ∷ ‵ (fdies Sz′.mir l₁) ∷ ‵ (froom An′.mir l₀ 0) ∷ ‵ (fdies An′.mir l₀) ∷ []) (runs C Λ En pieces.t-7 (atRet En Post))
+      part-3 : (g7 : Is u64 i (uint-vals w64 i)) → (g8 : Is Ai.the-row id (valsAi id)) → (g9 : Is Ac.the-row c (valsAc c)) → (g10 : Is Dn.the-row d (valsDn d)) → Sq W (‵ (Slice Ac.the-row κ₀ γ₀ b₀ o₀ n₀ acs) ∷ ‵ (flft κ₀ q₀) ∷ ‵ (Slice Ms.the-row κ₁ γ₁ b₁ o₁ n₁ t) ∷ ‵ (flft κ₁ q₁)
+          ∷ ‵ (froom (sliceTy (tyRef erased mut (pointee (Ms.the-row .written)))) l₂₇ 0) ∷ ‵ (fdies (sliceTy (tyRef erased mut (pointee (Ms.the-row .written)))) l₂₇) ∷ ‵ (froom (tyRef erased mut (pointee (Ms.the-row .written))) l₂₆ 0) ∷ ‵ (fdies (tyRef erased mut (pointee (Ms.the-row .written))) l₂₆) ∷ ‵ (froom (sliceTy (tyRef erased mut (pointee (Ms.the-row .written)))) l₂₅ 0) ∷ ‵ (fdies (sliceTy (tyRef erased mut (pointee (Ms.the-row .written)))) l₂₅) ∷ ‵ (froom (tyRef erased mut (pointee (Ms.the-row .written))) l₂₄ 0) ∷ ‵ (fdies (tyRef erased mut (pointee (Ms.the-row .written))) l₂₄) ∷ ‵ (froom (sliceTy (tyRef erased mut (pointee (Ac.the-row .written)))) l₂₃ 0) ∷ ‵ (fdies (sliceTy (tyRef erased mut (pointee (Ac.the-row .written)))) l₂₃) ∷ ‵ (froom (tyRef erased mut (pointee (Ac.the-row .written))) l₂₂ 0) ∷ ‵ (fdies (tyRef erased mut (pointee (Ac.the-row .written))) l₂₂) ∷ ‵ (froom tyUnit l₂₁ 0) ∷ ‵ (fdies tyUnit l₂₁) ∷ ‵ (froom (sliceTy (tyRef erased imm (pointee (Ms.the-row .written)))) l₂₀ 0) ∷ ‵ (fdies (sliceTy (tyRef erased imm (pointee (Ms.the-row .written)))) l₂₀) ∷ ‵ (froom (tyRef erased imm (pointee (Ms.the-row .written))) l₁₉ 0) ∷ ‵ (fdies (tyRef erased imm (pointee (Ms.the-row .written))) l₁₉) ∷ ‵ (froom (sliceTy (tyRef erased imm (pointee (Ac.the-row .written)))) l₁₈ 0) ∷ ‵ (fdies (sliceTy (tyRef erased imm (pointee (Ac.the-row .written)))) l₁₈) ∷ ‵ (froom (tyRef erased imm (pointee (Ac.the-row .written))) l₁₇ 0) ∷ ‵ (fdies (tyRef erased imm (pointee (Ac.the-row .written))) l₁₇) ∷ ‵ (froom Sd′.mir l₁₆ 0) ∷ ‵ (fdies Sd′.mir l₁₆) ∷ ‵ (froom Ms′.mir l₁₅ 0) ∷ ‵ (fdies Ms′.mir l₁₅) ∷ ‵ (froom Ac′.mir l₁₄ 0) ∷ ‵ (fdies Ac′.mir l₁₄) ∷ ‵ (froom Dn′.mir l₁₃ 0) ∷ ‵ (fdies Dn′.mir l₁₃) ∷ ‵ (froom byte l₁₂ 0) ∷ ‵ (fdies byte l₁₂) ∷ ‵ (froom byte l₁₁ 0) ∷ ‵ (fdies byte l₁₁) ∷ ‵ (fat fullShare Dn′.mir l₁₀ 0 (valDn d)) ∷ ‵ (fdies Dn′.mir l₁₀) ∷ ‵ (fat fullShare Ac′.mir l₉ 0 (valAc c)) ∷ ‵ (fdies Ac′.mir l₉) ∷ ‵ (fat fullShare Ai′.mir l₈ 0 (valAi id)) ∷ ‵ (fdies Ai′.mir l₈) ∷ ‵ (fat fullShare word l₇ 0 (vint w64 i)) ∷ ‵ (fdies word l₇) ∷ ‵ (fat fullShare Ms′.mir l₆ 0 (valMs m)) ∷ ‵ (fdies Ms′.mir l₆) ∷ ‵ (fat fullShare word l₅ 0 (vint w64 k)) ∷ ‵ (fdies word l₅) ∷ ‵ (fat fullShare Ev′.mir l₄ 0 (valEv e)) ∷ ‵ (fdies Ev′.mir l₄) ∷ ‵ (fat fullShare (sliceTy (tyRef (named 1) mut (pointee (Ms.the-row .written)))) l₃ 0 s₁) ∷ ‵ (fdies (sliceTy (tyRef (named 1) mut (pointee (Ms.the-row .written)))) l₃) ∷ ‵ (fat fullShare (sliceTy (tyRef (named 0) mut (pointee (Ac.the-row .written)))) l₂ 0 s₀) ∷ ‵ (fdies (sliceTy (tyRef (named 0) mut (pointee (Ac.the-row .written)))) l₂) ∷ ‵ (fat fullShare Sz′.mir l₁ 0 (valSz z)) ∷ ‵ (fdies Sz′.mir l₁) ∷ ‵ (froom An′.mir l₀ 0) ∷ ‵ (fdies An′.mir l₀) ∷ []) (runs C Λ En pieces.t-7 (atRet En Post))
       part-3 g7 g8 g9 g10 =
           calls-value ! fm (need-in.signature .params) u8 (need-in.ended .kept) (need-in.clauses 𝓤 H A mem run) known-need-in (valsDn, tt) (makesDn, tt) (vint w8) (uint-tells w8)
           (d, tt) (g10, tt) tt (id⊢ 𝓤 (emp 𝓤)) (d .need) (λ r e′. id⊢ 𝓤 (fact 𝓤 (r ≡ (d .need)))) (and-then ! (reads ! (from ! (stop !)) (look ! 39 refl)) (no-more !)) (λ g11.
@@ -432,12 +450,12 @@ module _ {M : Type 1} (𝓤 : URA M) (H : Heap 𝓤) (A : Atoms 𝓤) (W : Given
           forget ! 18 refl $
           part-4 g7 g8 g9 g10 g11 g12))
 
-      part-2 : (g7 : Is u64 i (uint-vals w64 i)) → (g8 : Is usize p (uint-vals w64 p)) → Sq W (‵ (Slice Ac.the-row κ₀ γ₀ b₀ o₀ n₀ acs) ∷ ‵ (flft κ₀ q₀) ∷ ‵ (Slice Ms.the-row κ₁ γ₁ b₁ o₁ n₁ t) ∷ ‵ (flft κ₁ q₁)
-          ∷ ‵ (froom (sliceTy (tyRef erased mut (pointee (Ms.the-row .written)))) l₂₇ 0) ∷ ‵ (fdies (sliceTy (tyRef erased mut (pointee (Ms.the-row .written)))) l₂₇) ∷ ‵ (froom (tyRef erased mut (pointee (Ms.the-row .written))) l₂₆ 0) ∷ ‵ (fdies (tyRef erased mut (pointee (Ms.the-row .written))) l₂₆) ∷ ‵ (froom (sliceTy (tyRef erased mut (pointee (Ms.the-row .written)))) l₂₅ 0) ∷ ‵ (fdies (sliceTy (tyRef erased mut (pointee (Ms.the-row .written)))) l₂₅) ∷ ‵ (froom (tyRef erased mut (pointee (Ms.the-row .written))) l₂₄ 0) ∷ ‵ (fdies (tyRef erased mut (pointee (Ms.the-row .written))) l₂₄) ∷ ‵ (froom (sliceTy (tyRef erased mut (pointee (Ac.the-row .written)))) l₂₃ 0) ∷ ‵ (fdies (sliceTy (tyRef erased mut (pointee (Ac.the-row .written)))) l₂₃) ∷ ‵ (froom (tyRef erased mut (pointee (Ac.the-row .written))) l₂₂ 0) ∷ ‵ (fdies (tyRef erased mut (pointee (Ac.the-row .written))) l₂₂) ∷ ‵ (froom tyUnit l₂₁ 0) ∷ ‵ (fdies tyUnit l₂₁) ∷ ‵ (froom (sliceTy (tyRef erased imm (pointee (Ms.the-row .written)))) l₂₀ 0) ∷ ‵ (fdies (sliceTy (tyRef erased imm (pointee (Ms.the-row .written)))) l₂₀) ∷ ‵ (froom (tyRef erased imm (pointee (Ms.the-row .written))) l₁₉ 0) ∷ ‵ (fdies (tyRef erased imm (pointee (Ms.the-row .written))) l₁₉) ∷ ‵ (froom (sliceTy (tyRef erased imm (pointee (Ac.the-row .written)))) l₁₈ 0) ∷ ‵ (fdies (sliceTy (tyRef erased imm (pointee (Ac.the-row .written)))) l₁₈) ∷ ‵ (froom (tyRef erased imm (pointee (Ac.the-row .written))) l₁₇ 0) ∷ ‵ (fdies (tyRef erased imm (pointee (Ac.the-row .written))) l₁₇) ∷ ‵ (froom Sd′.mir l₁₆ 0) ∷ ‵ (fdies Sd′.mir l₁₆) ∷ ‵ (froom Ms′.mir l₁₅ 0) ∷ ‵ (fdies Ms′.mir l₁₅) ∷ ‵ (froom Ac′.mir l₁₄ 0) ∷ ‵ (fdies Ac′.mir l₁₄) ∷ ‵ (froom Dn′.mir l₁₃ 0) ∷ ‵ (fdies Dn′.mir l₁₃) ∷ ‵ (froom byte l₁₂ 0) ∷ ‵ (fdies byte l₁₂) ∷ ‵ (froom byte l₁₁ 0) ∷ ‵ (fdies byte l₁₁) ∷ ‵ (froom Dn′.mir l₁₀ 0) ∷ ‵ (fdies Dn′.mir l₁₀) ∷ ‵ (froom Ac′.mir l₉ 0) ∷ ‵ (fdies Ac′.mir l₉) ∷ ‵ (fat fullShare word l₈ 0 (vint w64 p)) ∷ ‵ (fdies word l₈) ∷ ‵ (fat fullShare word l₇ 0 (vint w64 i)) ∷ ‵ (fdies word l₇) ∷ ‵ (fat fullShare Ms′.mir l₆ 0 (valMs m)) ∷ ‵ (fdies Ms′.mir l₆) ∷ ‵ (fat fullShare word l₅ 0 (vint w64 k)) ∷ ‵ (fdies word l₅) ∷ ‵ (fat fullShare Ev′.mir l₄ 0 (valEv e)) ∷ ‵ (fdies Ev′.mir l₄) ∷ ‵ (fat fullShare (sliceTy (tyRef (named 1) mut (pointee (Ms.the-row .written)))) l₃ 0 s₁) ∷ ‵ (fdies (sliceTy (tyRef (named 1) mut (pointee (Ms.the-row .written)))) l₃) ∷ ‵ (fat fullShare (sliceTy (tyRef (named 0) mut (pointee (Ac.the-row .written)))) l₂ 0 s₀) ∷ ‵ (fdies (sliceTy (tyRef (named 0) mut (pointee (Ac.the-row .written)))) l₂) ∷ ‵ (fat fullShare Sz′.mir l₁ 0 (valSz z)) ∷ ‵ (fdies Sz′.mir l₁) ∷ ‵ (froom An′.mir l₀ 0) ∷ ‵ (fdies An′.mir l₀) ∷ []) (runs C Λ En pieces.t-3 (atRet En Post))
+      part-2 : (g7 : Is u64 i (uint-vals w64 i)) → (g8 : Is Ai.the-row id (valsAi id)) → Sq W (‵ (Slice Ac.the-row κ₀ γ₀ b₀ o₀ n₀ acs) ∷ ‵ (flft κ₀ q₀) ∷ ‵ (Slice Ms.the-row κ₁ γ₁ b₁ o₁ n₁ t) ∷ ‵ (flft κ₁ q₁)
+          ∷ ‵ (froom (sliceTy (tyRef erased mut (pointee (Ms.the-row .written)))) l₂₇ 0) ∷ ‵ (fdies (sliceTy (tyRef erased mut (pointee (Ms.the-row .written)))) l₂₇) ∷ ‵ (froom (tyRef erased mut (pointee (Ms.the-row .written))) l₂₆ 0) ∷ ‵ (fdies (tyRef erased mut (pointee (Ms.the-row .written))) l₂₆) ∷ ‵ (froom (sliceTy (tyRef erased mut (pointee (Ms.the-row .written)))) l₂₅ 0) ∷ ‵ (fdies (sliceTy (tyRef erased mut (pointee (Ms.the-row .written)))) l₂₅) ∷ ‵ (froom (tyRef erased mut (pointee (Ms.the-row .written))) l₂₄ 0) ∷ ‵ (fdies (tyRef erased mut (pointee (Ms.the-row .written))) l₂₄) ∷ ‵ (froom (sliceTy (tyRef erased mut (pointee (Ac.the-row .written)))) l₂₃ 0) ∷ ‵ (fdies (sliceTy (tyRef erased mut (pointee (Ac.the-row .written)))) l₂₃) ∷ ‵ (froom (tyRef erased mut (pointee (Ac.the-row .written))) l₂₂ 0) ∷ ‵ (fdies (tyRef erased mut (pointee (Ac.the-row .written))) l₂₂) ∷ ‵ (froom tyUnit l₂₁ 0) ∷ ‵ (fdies tyUnit l₂₁) ∷ ‵ (froom (sliceTy (tyRef erased imm (pointee (Ms.the-row .written)))) l₂₀ 0) ∷ ‵ (fdies (sliceTy (tyRef erased imm (pointee (Ms.the-row .written)))) l₂₀) ∷ ‵ (froom (tyRef erased imm (pointee (Ms.the-row .written))) l₁₉ 0) ∷ ‵ (fdies (tyRef erased imm (pointee (Ms.the-row .written))) l₁₉) ∷ ‵ (froom (sliceTy (tyRef erased imm (pointee (Ac.the-row .written)))) l₁₈ 0) ∷ ‵ (fdies (sliceTy (tyRef erased imm (pointee (Ac.the-row .written)))) l₁₈) ∷ ‵ (froom (tyRef erased imm (pointee (Ac.the-row .written))) l₁₇ 0) ∷ ‵ (fdies (tyRef erased imm (pointee (Ac.the-row .written))) l₁₇) ∷ ‵ (froom Sd′.mir l₁₆ 0) ∷ ‵ (fdies Sd′.mir l₁₆) ∷ ‵ (froom Ms′.mir l₁₅ 0) ∷ ‵ (fdies Ms′.mir l₁₅) ∷ ‵ (froom Ac′.mir l₁₄ 0) ∷ ‵ (fdies Ac′.mir l₁₄) ∷ ‵ (froom Dn′.mir l₁₃ 0) ∷ ‵ (fdies Dn′.mir l₁₃) ∷ ‵ (froom byte l₁₂ 0) ∷ ‵ (fdies byte l₁₂) ∷ ‵ (froom byte l₁₁ 0) ∷ ‵ (fdies byte l₁₁) ∷ ‵ (froom Dn′.mir l₁₀ 0) ∷ ‵ (fdies Dn′.mir l₁₀) ∷ ‵ (froom Ac′.mir l₉ 0) ∷ ‵ (fdies Ac′.mir l₉) ∷ ‵ (fat fullShare Ai′.mir l₈ 0 (valAi id)) ∷ ‵ (fdies Ai′.mir l₈) ∷ ‵ (fat fullShare word l₇ 0 (vint w64 i)) ∷ ‵ (fdies word l₇) ∷ ‵ (fat fullShare Ms′.mir l₆ 0 (valMs m)) ∷ ‵ (fdies Ms′.mir l₆) ∷ ‵ (fat fullShare word l₅ 0 (vint w64 k)) ∷ ‵ (fdies word l₅) ∷ ‵ (fat fullShare Ev′.mir l₄ 0 (valEv e)) ∷ ‵ (fdies Ev′.mir l₄) ∷ ‵ (fat fullShare (sliceTy (tyRef (named 1) mut (pointee (Ms.the-row .written)))) l₃ 0 s₁) ∷ ‵ (fdies (sliceTy (tyRef (named 1) mut (pointee (Ms.the-row .written)))) l₃) ∷ ‵ (fat fullShare (sliceTy (tyRef (named 0) mut (pointee (Ac.the-row .written)))) l₂ 0 s₀) ∷ ‵ (fdies (sliceTy (tyRef (named 0) mut (pointee (Ac.the-row .written)))) l₂) ∷ ‵ (fat fullShare Sz′.mir l₁ 0 (valSz z)) ∷ ‵ (fdies Sz′.mir l₁) ∷ ‵ (froom An′.mir l₀ 0) ∷ ‵ (fdies An′.mir l₀) ∷ []) (runs C Λ En pieces.t-3 (atRet En Post))
       part-2 g7 g8 =
           assigns ! (addr ! (from ! (fld ! refl (hop ! (look-in ! 54 (sub ! 0 refl (whole !))) (stop !))))) (from ! (stop !)) (init ! 24 refl (tt, tt)) $
           assigns ! (agg ! (and-then ! (reads ! (from ! (stop !)) (look ! 24 refl)) (and-then ! (reads ! (from ! (fld ! refl (stop !))) (look-in ! 54 (sub ! 1 refl (whole !)))) (no-more !)))) (from ! (stop !)) (init ! 22 refl (tt, (tt, (record { fits = room₀ .0 }, tt)))) $
-          calls-shared ! fm Ac.the-row (plain (λ _. usize) ∷ []) Ac.the-row (yes, tt) valAc (LL.tells Ac.the-type Ac′.the-laws) b₀ o₀ n₀ acs refl (λ ν. (uint-vals w64, tt)) (λ ν. (uint-makes 𝓤 H A W w64, tt)) (λ ν. (p, tt)) (λ ν. (g8, tt))
+          calls-shared ! fm Ac.the-row (plain (λ _. Ai.the-row) ∷ []) Ac.the-row (yes, tt) valAc (LL.tells Ac.the-type Ac′.the-laws) b₀ o₀ n₀ acs refl (λ ν. (valsAi, tt)) (λ ν. (makesAi, tt)) (λ ν. (id, tt)) (λ ν. (g8, tt))
           (load-acceptor.clauses 𝓤 H A mem run) known-load-acceptor c (λ ν δ. tt) (λ ν δ. factI 𝓤 _ (emp 𝓤) in-p) (λ ν δ r e′. id⊢ 𝓤 (fact 𝓤 (r ≡ c))) (λ ν δ. (and-then ! (reads ! (from ! (stop !)) (look ! 25 refl)) (and-then ! (reads ! (from ! (stop !)) (look ! 45 refl)) (no-more !)))) (λ g9.
           land ! (from ! (stop !)) (init ! 40 refl (typedAc c g9)) $
           calls-value ! fm (decide-acceptor.signature .params) Dn.the-row (decide-acceptor.ended .kept) (decide-acceptor.clauses 𝓤 H A mem run) known-decide-acceptor (valsSz, (valsEv, (valsMs, (valsAc, tt)))) (makesSz, (makesEv, (makesMs, (makesAc, tt)))) valDn (LL.tells Dn.the-type Dn′.the-laws)
@@ -448,14 +466,14 @@ module _ {M : Type 1} (𝓤 : URA M) (H : Heap 𝓤) (A : Atoms 𝓤) (W : Given
           part-3 g7 g8 g9 g10))
 
       part-1 : Sq W (‵ (Slice Ac.the-row κ₀ γ₀ b₀ o₀ n₀ acs) ∷ ‵ (flft κ₀ q₀) ∷ ‵ (Slice Ms.the-row κ₁ γ₁ b₁ o₁ n₁ t) ∷ ‵ (flft κ₁ q₁)
-          ∷ ‵ (froom (sliceTy (tyRef erased mut (pointee (Ms.the-row .written)))) l₂₇ 0) ∷ ‵ (fdies (sliceTy (tyRef erased mut (pointee (Ms.the-row .written)))) l₂₇) ∷ ‵ (froom (tyRef erased mut (pointee (Ms.the-row .written))) l₂₆ 0) ∷ ‵ (fdies (tyRef erased mut (pointee (Ms.the-row .written))) l₂₆) ∷ ‵ (froom (sliceTy (tyRef erased mut (pointee (Ms.the-row .written)))) l₂₅ 0) ∷ ‵ (fdies (sliceTy (tyRef erased mut (pointee (Ms.the-row .written)))) l₂₅) ∷ ‵ (froom (tyRef erased mut (pointee (Ms.the-row .written))) l₂₄ 0) ∷ ‵ (fdies (tyRef erased mut (pointee (Ms.the-row .written))) l₂₄) ∷ ‵ (froom (sliceTy (tyRef erased mut (pointee (Ac.the-row .written)))) l₂₃ 0) ∷ ‵ (fdies (sliceTy (tyRef erased mut (pointee (Ac.the-row .written)))) l₂₃) ∷ ‵ (froom (tyRef erased mut (pointee (Ac.the-row .written))) l₂₂ 0) ∷ ‵ (fdies (tyRef erased mut (pointee (Ac.the-row .written))) l₂₂) ∷ ‵ (froom tyUnit l₂₁ 0) ∷ ‵ (fdies tyUnit l₂₁) ∷ ‵ (froom (sliceTy (tyRef erased imm (pointee (Ms.the-row .written)))) l₂₀ 0) ∷ ‵ (fdies (sliceTy (tyRef erased imm (pointee (Ms.the-row .written)))) l₂₀) ∷ ‵ (froom (tyRef erased imm (pointee (Ms.the-row .written))) l₁₉ 0) ∷ ‵ (fdies (tyRef erased imm (pointee (Ms.the-row .written))) l₁₉) ∷ ‵ (froom (sliceTy (tyRef erased imm (pointee (Ac.the-row .written)))) l₁₈ 0) ∷ ‵ (fdies (sliceTy (tyRef erased imm (pointee (Ac.the-row .written)))) l₁₈) ∷ ‵ (froom (tyRef erased imm (pointee (Ac.the-row .written))) l₁₇ 0) ∷ ‵ (fdies (tyRef erased imm (pointee (Ac.the-row .written))) l₁₇) ∷ ‵ (froom Sd′.mir l₁₆ 0) ∷ ‵ (fdies Sd′.mir l₁₆) ∷ ‵ (froom Ms′.mir l₁₅ 0) ∷ ‵ (fdies Ms′.mir l₁₅) ∷ ‵ (froom Ac′.mir l₁₄ 0) ∷ ‵ (fdies Ac′.mir l₁₄) ∷ ‵ (froom Dn′.mir l₁₃ 0) ∷ ‵ (fdies Dn′.mir l₁₃) ∷ ‵ (froom byte l₁₂ 0) ∷ ‵ (fdies byte l₁₂) ∷ ‵ (froom byte l₁₁ 0) ∷ ‵ (fdies byte l₁₁) ∷ ‵ (froom Dn′.mir l₁₀ 0) ∷ ‵ (fdies Dn′.mir l₁₀) ∷ ‵ (froom Ac′.mir l₉ 0) ∷ ‵ (fdies Ac′.mir l₉) ∷ ‵ (froom word l₈ 0) ∷ ‵ (fdies word l₈) ∷ ‵ (froom word l₇ 0) ∷ ‵ (fdies word l₇) ∷ ‵ (fat fullShare Ms′.mir l₆ 0 (valMs m)) ∷ ‵ (fdies Ms′.mir l₆) ∷ ‵ (fat fullShare word l₅ 0 (vint w64 k)) ∷ ‵ (fdies word l₅) ∷ ‵ (fat fullShare Ev′.mir l₄ 0 (valEv e)) ∷ ‵ (fdies Ev′.mir l₄) ∷ ‵ (fat fullShare (sliceTy (tyRef (named 1) mut (pointee (Ms.the-row .written)))) l₃ 0 s₁) ∷ ‵ (fdies (sliceTy (tyRef (named 1) mut (pointee (Ms.the-row .written)))) l₃) ∷ ‵ (fat fullShare (sliceTy (tyRef (named 0) mut (pointee (Ac.the-row .written)))) l₂ 0 s₀) ∷ ‵ (fdies (sliceTy (tyRef (named 0) mut (pointee (Ac.the-row .written)))) l₂) ∷ ‵ (fat fullShare Sz′.mir l₁ 0 (valSz z)) ∷ ‵ (fdies Sz′.mir l₁) ∷ ‵ (froom An′.mir l₀ 0) ∷ ‵ (fdies An′.mir l₀) ∷ []) (runs C Λ En pieces.t-1 (atRet En Post))
+          ∷ ‵ (froom (sliceTy (tyRef erased mut (pointee (Ms.the-row .written)))) l₂₇ 0) ∷ ‵ (fdies (sliceTy (tyRef erased mut (pointee (Ms.the-row .written)))) l₂₇) ∷ ‵ (froom (tyRef erased mut (pointee (Ms.the-row .written))) l₂₆ 0) ∷ ‵ (fdies (tyRef erased mut (pointee (Ms.the-row .written))) l₂₆) ∷ ‵ (froom (sliceTy (tyRef erased mut (pointee (Ms.the-row .written)))) l₂₅ 0) ∷ ‵ (fdies (sliceTy (tyRef erased mut (pointee (Ms.the-row .written)))) l₂₅) ∷ ‵ (froom (tyRef erased mut (pointee (Ms.the-row .written))) l₂₄ 0) ∷ ‵ (fdies (tyRef erased mut (pointee (Ms.the-row .written))) l₂₄) ∷ ‵ (froom (sliceTy (tyRef erased mut (pointee (Ac.the-row .written)))) l₂₃ 0) ∷ ‵ (fdies (sliceTy (tyRef erased mut (pointee (Ac.the-row .written)))) l₂₃) ∷ ‵ (froom (tyRef erased mut (pointee (Ac.the-row .written))) l₂₂ 0) ∷ ‵ (fdies (tyRef erased mut (pointee (Ac.the-row .written))) l₂₂) ∷ ‵ (froom tyUnit l₂₁ 0) ∷ ‵ (fdies tyUnit l₂₁) ∷ ‵ (froom (sliceTy (tyRef erased imm (pointee (Ms.the-row .written)))) l₂₀ 0) ∷ ‵ (fdies (sliceTy (tyRef erased imm (pointee (Ms.the-row .written)))) l₂₀) ∷ ‵ (froom (tyRef erased imm (pointee (Ms.the-row .written))) l₁₉ 0) ∷ ‵ (fdies (tyRef erased imm (pointee (Ms.the-row .written))) l₁₉) ∷ ‵ (froom (sliceTy (tyRef erased imm (pointee (Ac.the-row .written)))) l₁₈ 0) ∷ ‵ (fdies (sliceTy (tyRef erased imm (pointee (Ac.the-row .written)))) l₁₈) ∷ ‵ (froom (tyRef erased imm (pointee (Ac.the-row .written))) l₁₇ 0) ∷ ‵ (fdies (tyRef erased imm (pointee (Ac.the-row .written))) l₁₇) ∷ ‵ (froom Sd′.mir l₁₆ 0) ∷ ‵ (fdies Sd′.mir l₁₆) ∷ ‵ (froom Ms′.mir l₁₅ 0) ∷ ‵ (fdies Ms′.mir l₁₅) ∷ ‵ (froom Ac′.mir l₁₄ 0) ∷ ‵ (fdies Ac′.mir l₁₄) ∷ ‵ (froom Dn′.mir l₁₃ 0) ∷ ‵ (fdies Dn′.mir l₁₃) ∷ ‵ (froom byte l₁₂ 0) ∷ ‵ (fdies byte l₁₂) ∷ ‵ (froom byte l₁₁ 0) ∷ ‵ (fdies byte l₁₁) ∷ ‵ (froom Dn′.mir l₁₀ 0) ∷ ‵ (fdies Dn′.mir l₁₀) ∷ ‵ (froom Ac′.mir l₉ 0) ∷ ‵ (fdies Ac′.mir l₉) ∷ ‵ (froom Ai′.mir l₈ 0) ∷ ‵ (fdies Ai′.mir l₈) ∷ ‵ (froom word l₇ 0) ∷ ‵ (fdies word l₇) ∷ ‵ (fat fullShare Ms′.mir l₆ 0 (valMs m)) ∷ ‵ (fdies Ms′.mir l₆) ∷ ‵ (fat fullShare word l₅ 0 (vint w64 k)) ∷ ‵ (fdies word l₅) ∷ ‵ (fat fullShare Ev′.mir l₄ 0 (valEv e)) ∷ ‵ (fdies Ev′.mir l₄) ∷ ‵ (fat fullShare (sliceTy (tyRef (named 1) mut (pointee (Ms.the-row .written)))) l₃ 0 s₁) ∷ ‵ (fdies (sliceTy (tyRef (named 1) mut (pointee (Ms.the-row .written)))) l₃) ∷ ‵ (fat fullShare (sliceTy (tyRef (named 0) mut (pointee (Ac.the-row .written)))) l₂ 0 s₀) ∷ ‵ (fdies (sliceTy (tyRef (named 0) mut (pointee (Ac.the-row .written)))) l₂) ∷ ‵ (fat fullShare Sz′.mir l₁ 0 (valSz z)) ∷ ‵ (fdies Sz′.mir l₁) ∷ ‵ (froom An′.mir l₀ 0) ∷ ‵ (fdies An′.mir l₀) ∷ []) (runs C Λ En pieces.t-1 (atRet En Post))
       part-1 =
           calls-value ! fm (party-of.signature .params) u64 (party-of.ended .kept) (party-of.clauses 𝓤 H A mem run) known-party-of (valsEv, (valsMs, tt)) (makesEv, (makesMs, tt)) (vint w64) (uint-tells w64)
           (e, (m, tt)) (ge, (gm, tt)) tt (id⊢ 𝓤 (emp 𝓤)) i (λ r e′. id⊢ 𝓤 (fact 𝓤 (r ≡ i))) (and-then ! (reads ! (from ! (stop !)) (look ! 51 refl)) (and-then ! (reads ! (from ! (stop !)) (look ! 47 refl)) (no-more !))) (λ g7.
           land ! (from ! (stop !)) (init ! 44 refl (tt, record { fits = g7 .1 })) $
-          calls-value ! fm (acceptor-at.signature .params) usize (acceptor-at.ended .kept) (acceptor-at.clauses 𝓤 H A mem run) known-acceptor-at (valsSz, (uint-vals w64, tt)) (makesSz, (uint-makes 𝓤 H A W w64, tt)) (vint w64) (uint-tells w64)
-          (z, (i, tt)) (gz, (g7, tt)) tt (id⊢ 𝓤 (emp 𝓤)) p (λ r e′. id⊢ 𝓤 (fact 𝓤 (r ≡ p))) (and-then ! (reads ! (from ! (stop !)) (look ! 57 refl)) (and-then ! (reads ! (from ! (stop !)) (look ! 45 refl)) (no-more !))) (λ g8.
-          land ! (from ! (stop !)) (init ! 42 refl (tt, record { fits = g8 .1 })) $
+          calls-value ! fm (acceptor-at.signature .params) Ai.the-row (acceptor-at.ended .kept) (acceptor-at.clauses 𝓤 H A mem run) known-acceptor-at (valsSz, (uint-vals w64, tt)) (makesSz, (uint-makes 𝓤 H A W w64, tt)) valAi (LL.tells Ai.the-type Ai′.the-laws)
+          (z, (i, tt)) (gz, (g7, tt)) tt (factI 𝓤 _ (emp 𝓤) (fit .1 .1 .0)) id (λ r e′. id⊢ 𝓤 (fact 𝓤 (r ≡ id))) (and-then ! (reads ! (from ! (stop !)) (look ! 57 refl)) (and-then ! (reads ! (from ! (stop !)) (look ! 45 refl)) (no-more !))) (λ g8.
+          land ! (from ! (stop !)) (init ! 42 refl (typedAi id g8)) $
           part-2 g7 g8))
 
     walk : ent 𝓤 (onEntry 𝓤 H A this.signature (κ₀, (κ₁, tt)) (q₀, (q₁, tt)) (z, (listAt Ac.the-row b₀ o₀ acs γ₀, (listAt Ms.the-row b₁ o₁ t γ₁, (e, (k, (m, tt)))))) at) (WpFn 𝓤 H C Λ code.function (valSz z ∷ s₀ ∷ s₁ ∷ valEv e ∷ vint w64 k ∷ valMs m ∷ []) Post)

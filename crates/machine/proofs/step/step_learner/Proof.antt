@@ -62,6 +62,9 @@ use Rattle.model.proofs.Event.Laws as Ev′
 use Rattle.sets.specs.declared.ProposerId.{ProposerId}
 use Rattle.sets.proofs.ProposerId as Pi
 use Rattle.sets.proofs.ProposerId.Laws as Pi′
+use Rattle.sets.specs.declared.LearnerId.{LearnerId}
+use Rattle.sets.proofs.LearnerId as Ll
+use Rattle.sets.proofs.LearnerId.Laws as Ll′
 use Rattle.machine.specs.declared.lent.Ear.{Ear}
 use Rattle.machine.proofs.lent.Ear as Ea
 use Rattle.machine.proofs.lent.Ear.Laws as Ea′
@@ -140,6 +143,12 @@ valsPi = LL.vals Pi.the-type Pi′.the-laws
 
 abbrev valPi : ProposerId → Val
 valPi = LL.val Pi.the-type Pi′.the-laws
+
+abbrev valsLl : LearnerId → List Val
+valsLl = LL.vals Ll.the-type Ll′.the-laws
+
+abbrev valLl : LearnerId → Val
+valLl = LL.val Ll.the-type Ll′.the-laws
 
 abbrev valsEa : Ear → List Val
 valsEa = LL.vals Ea.the-type Ea′.the-laws
@@ -223,6 +232,9 @@ module _ {M : Type 1} (𝓤 : URA M) (H : Heap 𝓤) (A : Atoms 𝓤) (W : Given
   abbrev li : ℕ
   li = within i (z .learners)
 
+  abbrev lid : LearnerId
+  lid = record { 0 = li }
+
   abbrev l : Learner
   l = getD ls li freshLearner
 
@@ -271,6 +283,12 @@ module _ {M : Type 1} (𝓤 : URA M) (H : Heap 𝓤) (A : Atoms 𝓤) (W : Given
   makesPi : Makes 𝓤 H A Pi.the-row (Is Pi.the-row)
   makesPi = LL.makes Pi.the-type Pi′.the-plain 𝓤 H A
 
+  typedLl : (m : LearnerId) → Is Ll.the-row m (valsLl m) → Holds (hasTy Ll′.mir (valLl m)) × WT (valLl m)
+  typedLl m is = LL.lawful Ll.the-type Ll′.the-laws 𝓤 H A W .typed m (valsLl m) is .0
+
+  makesLl : Makes 𝓤 H A Ll.the-row (Is Ll.the-row)
+  makesLl = LL.makes Ll.the-type Ll′.the-plain 𝓤 H A
+
   typedEa : (m : Ear) → Is Ea.the-row m (valsEa m) → Holds (hasTy Ea′.mir (valEa m)) × WT (valEa m)
   typedEa m is = LL.lawful Ea.the-type Ea′.the-laws 𝓤 H A W .typed m (valsEa m) is .0
 
@@ -309,10 +327,10 @@ module _ {M : Type 1} (𝓤 : URA M) (H : Heap 𝓤) (A : Atoms 𝓤) (W : Given
 
     module _ (l₀ l₁ l₂ l₃ l₄ l₅ l₆ l₇ l₈ l₉ l₁₀ l₁₁ l₁₂ l₁₃ l₁₄ l₁₅ l₁₆ l₁₇ l₁₈ l₁₉ l₂₀ : ℕ) where
       abbrev En : Env 𝓤 H
-      En = (An′.mir, l₀) ∷ (Sz′.mir, l₁) ∷ ((sliceTy (tyRef (named 0) mut (pointee (Le.the-row .written)))), l₂) ∷ ((sliceTy (tyRef (named 1) mut (pointee (Ms.the-row .written)))), l₃) ∷ (Ev′.mir, l₄) ∷ (word, l₅) ∷ (Ms′.mir, l₆) ∷ (word, l₇) ∷ (word, l₈) ∷ (Pi′.mir, l₉) ∷ (Ea′.mir, l₁₀) ∷ (Li′.mir, l₁₁) ∷ (Ea′.mir, l₁₂) ∷ (Ms′.mir, l₁₃) ∷ ((tyRef erased imm (pointee (Le.the-row .written))), l₁₄) ∷ ((sliceTy (tyRef erased imm (pointee (Le.the-row .written)))), l₁₅) ∷ (tyUnit, l₁₆) ∷ ((tyRef erased mut (pointee (Le.the-row .written))), l₁₇) ∷ ((sliceTy (tyRef erased mut (pointee (Le.the-row .written)))), l₁₈) ∷ ((tyRef erased mut (pointee (Ms.the-row .written))), l₁₉) ∷ ((sliceTy (tyRef erased mut (pointee (Ms.the-row .written)))), l₂₀) ∷ []
+      En = (An′.mir, l₀) ∷ (Sz′.mir, l₁) ∷ ((sliceTy (tyRef (named 0) mut (pointee (Le.the-row .written)))), l₂) ∷ ((sliceTy (tyRef (named 1) mut (pointee (Ms.the-row .written)))), l₃) ∷ (Ev′.mir, l₄) ∷ (word, l₅) ∷ (Ms′.mir, l₆) ∷ (word, l₇) ∷ (Ll′.mir, l₈) ∷ (Pi′.mir, l₉) ∷ (Ea′.mir, l₁₀) ∷ (Li′.mir, l₁₁) ∷ (Ea′.mir, l₁₂) ∷ (Ms′.mir, l₁₃) ∷ ((tyRef erased imm (pointee (Le.the-row .written))), l₁₄) ∷ ((sliceTy (tyRef erased imm (pointee (Le.the-row .written)))), l₁₅) ∷ (tyUnit, l₁₆) ∷ ((tyRef erased mut (pointee (Le.the-row .written))), l₁₇) ∷ ((sliceTy (tyRef erased mut (pointee (Le.the-row .written)))), l₁₈) ∷ ((tyRef erased mut (pointee (Ms.the-row .written))), l₁₉) ∷ ((sliceTy (tyRef erased mut (pointee (Ms.the-row .written)))), l₂₀) ∷ []
 
-      part-5 : (g7 : Is u64 i (uint-vals w64 i)) → (g8 : Is usize li (uint-vals w64 li)) → (g9 : Is Pi.the-row (m .proposer) (valsPi (m .proposer))) → (g10 : Is Ea.the-row x (valsEa x)) → (g11 : Is Li.the-row y (valsLi y)) → (g12 : Is Ea.the-row (y .ear) (valsEa (y .ear))) → (g13 : Is Ms.the-row (slotAfter (y .frees) m) (valsMs (slotAfter (y .frees) m))) → (e18 : length ls′ ≡ n₀) → (e20 : length t′ ≡ n₁) → Sq W (‵ (Slice Ms.the-row κ₁ γ₁ b₁ o₁ n₁ t′) ∷ ‵ (flft κ₁ q₁) ∷ ‵ (Slice Le.the-row κ₀ γ₀ b₀ o₀ n₀ ls′) ∷ ‵ (flft κ₀ q₀)
-          ∷ ‵ (froom (sliceTy (tyRef erased mut (pointee (Ms.the-row .written)))) l₂₀ 0) ∷ ‵ (fdies (sliceTy (tyRef erased mut (pointee (Ms.the-row .written)))) l₂₀) ∷ ‵ (froom (tyRef erased mut (pointee (Ms.the-row .written))) l₁₉ 0) ∷ ‵ (fdies (tyRef erased mut (pointee (Ms.the-row .written))) l₁₉) ∷ ‵ (froom (sliceTy (tyRef erased mut (pointee (Le.the-row .written)))) l₁₈ 0) ∷ ‵ (fdies (sliceTy (tyRef erased mut (pointee (Le.the-row .written)))) l₁₈) ∷ ‵ (froom (tyRef erased mut (pointee (Le.the-row .written))) l₁₇ 0) ∷ ‵ (fdies (tyRef erased mut (pointee (Le.the-row .written))) l₁₇) ∷ ‵ (froom tyUnit l₁₆ 0) ∷ ‵ (fdies tyUnit l₁₆) ∷ ‵ (froom (sliceTy (tyRef erased imm (pointee (Le.the-row .written)))) l₁₅ 0) ∷ ‵ (fdies (sliceTy (tyRef erased imm (pointee (Le.the-row .written)))) l₁₅) ∷ ‵ (froom (tyRef erased imm (pointee (Le.the-row .written))) l₁₄ 0) ∷ ‵ (fdies (tyRef erased imm (pointee (Le.the-row .written))) l₁₄) ∷ ‵ (fat fullShare Ms′.mir l₁₃ 0 (valMs (slotAfter (y .frees) m))) ∷ ‵ (fdies Ms′.mir l₁₃) ∷ ‵ (fat fullShare Ea′.mir l₁₂ 0 (valEa (y .ear))) ∷ ‵ (fdies Ea′.mir l₁₂) ∷ ‵ (fat fullShare Li′.mir l₁₁ 0 (valLi y)) ∷ ‵ (fdies Li′.mir l₁₁) ∷ ‵ (fat fullShare Ea′.mir l₁₀ 0 (valEa x)) ∷ ‵ (fdies Ea′.mir l₁₀) ∷ ‵ (fat fullShare Pi′.mir l₉ 0 (valPi (m .proposer))) ∷ ‵ (fdies Pi′.mir l₉) ∷ ‵ (fat fullShare word l₈ 0 (vint w64 li)) ∷ ‵ (fdies word l₈) ∷ ‵ (fat fullShare word l₇ 0 (vint w64 i)) ∷ ‵ (fdies word l₇) ∷ ‵ (fat fullShare Ms′.mir l₆ 0 (valMs m)) ∷ ‵ (fdies Ms′.mir l₆) ∷ ‵ (fat fullShare word l₅ 0 (vint w64 k)) ∷ ‵ (fdies word l₅) ∷ ‵ (fat fullShare Ev′.mir l₄ 0 (valEv e)) ∷ ‵ (fdies Ev′.mir l₄) ∷ ‵ (fat fullShare (sliceTy (tyRef (named 1) mut (pointee (Ms.the-row .written)))) l₃ 0 s₁) ∷ ‵ (fdies (sliceTy (tyRef (named 1) mut (pointee (Ms.the-row .written)))) l₃) ∷ ‵ (fat fullShare (sliceTy (tyRef (named 0) mut (pointee (Le.the-row .written)))) l₂ 0 s₀) ∷ ‵ (fdies (sliceTy (tyRef (named 0) mut (pointee (Le.the-row .written)))) l₂) ∷ ‵ (fat fullShare Sz′.mir l₁ 0 (valSz z)) ∷ ‵ (fdies Sz′.mir l₁) ∷ ‵ (froom An′.mir l₀ 0) ∷ ‵ (fdies An′.mir l₀) ∷ []) (runs C Λ En pieces.t-16 (atRet En Post))
+      part-5 : (g7 : Is u64 i (uint-vals w64 i)) → (g8 : Is Ll.the-row lid (valsLl lid)) → (g9 : Is Pi.the-row (m .proposer) (valsPi (m .proposer))) → (g10 : Is Ea.the-row x (valsEa x)) → (g11 : Is Li.the-row y (valsLi y)) → (g12 : Is Ea.the-row (y .ear) (valsEa (y .ear))) → (g13 : Is Ms.the-row (slotAfter (y .frees) m) (valsMs (slotAfter (y .frees) m))) → (e18 : length ls′ ≡ n₀) → (e20 : length t′ ≡ n₁) → Sq W (‵ (Slice Ms.the-row κ₁ γ₁ b₁ o₁ n₁ t′) ∷ ‵ (flft κ₁ q₁) ∷ ‵ (Slice Le.the-row κ₀ γ₀ b₀ o₀ n₀ ls′) ∷ ‵ (flft κ₀ q₀)
+          ∷ ‵ (froom (sliceTy (tyRef erased mut (pointee (Ms.the-row .written)))) l₂₀ 0) ∷ ‵ (fdies (sliceTy (tyRef erased mut (pointee (Ms.the-row .written)))) l₂₀) ∷ ‵ (froom (tyRef erased mut (pointee (Ms.the-row .written))) l₁₉ 0) ∷ ‵ (fdies (tyRef erased mut (pointee (Ms.the-row .written))) l₁₉) ∷ ‵ (froom (sliceTy (tyRef erased mut (pointee (Le.the-row .written)))) l₁₈ 0) ∷ ‵ (fdies (sliceTy (tyRef erased mut (pointee (Le.the-row .written)))) l₁₈) ∷ ‵ (froom (tyRef erased mut (pointee (Le.the-row .written))) l₁₇ 0) ∷ ‵ (fdies (tyRef erased mut (pointee (Le.the-row .written))) l₁₇) ∷ ‵ (froom tyUnit l₁₆ 0) ∷ ‵ (fdies tyUnit l₁₆) ∷ ‵ (froom (sliceTy (tyRef erased imm (pointee (Le.the-row .written)))) l₁₅ 0) ∷ ‵ (fdies (sliceTy (tyRef erased imm (pointee (Le.the-row .written)))) l₁₅) ∷ ‵ (froom (tyRef erased imm (pointee (Le.the-row .written))) l₁₄ 0) ∷ ‵ (fdies (tyRef erased imm (pointee (Le.the-row .written))) l₁₄) ∷ ‵ (fat fullShare Ms′.mir l₁₃ 0 (valMs (slotAfter (y .frees) m))) ∷ ‵ (fdies Ms′.mir l₁₃) ∷ ‵ (fat fullShare Ea′.mir l₁₂ 0 (valEa (y .ear))) ∷ ‵ (fdies Ea′.mir l₁₂) ∷ ‵ (fat fullShare Li′.mir l₁₁ 0 (valLi y)) ∷ ‵ (fdies Li′.mir l₁₁) ∷ ‵ (fat fullShare Ea′.mir l₁₀ 0 (valEa x)) ∷ ‵ (fdies Ea′.mir l₁₀) ∷ ‵ (fat fullShare Pi′.mir l₉ 0 (valPi (m .proposer))) ∷ ‵ (fdies Pi′.mir l₉) ∷ ‵ (fat fullShare Ll′.mir l₈ 0 (valLl lid)) ∷ ‵ (fdies Ll′.mir l₈) ∷ ‵ (fat fullShare word l₇ 0 (vint w64 i)) ∷ ‵ (fdies word l₇) ∷ ‵ (fat fullShare Ms′.mir l₆ 0 (valMs m)) ∷ ‵ (fdies Ms′.mir l₆) ∷ ‵ (fat fullShare word l₅ 0 (vint w64 k)) ∷ ‵ (fdies word l₅) ∷ ‵ (fat fullShare Ev′.mir l₄ 0 (valEv e)) ∷ ‵ (fdies Ev′.mir l₄) ∷ ‵ (fat fullShare (sliceTy (tyRef (named 1) mut (pointee (Ms.the-row .written)))) l₃ 0 s₁) ∷ ‵ (fdies (sliceTy (tyRef (named 1) mut (pointee (Ms.the-row .written)))) l₃) ∷ ‵ (fat fullShare (sliceTy (tyRef (named 0) mut (pointee (Le.the-row .written)))) l₂ 0 s₀) ∷ ‵ (fdies (sliceTy (tyRef (named 0) mut (pointee (Le.the-row .written)))) l₂) ∷ ‵ (fat fullShare Sz′.mir l₁ 0 (valSz z)) ∷ ‵ (fdies Sz′.mir l₁) ∷ ‵ (froom An′.mir l₀ 0) ∷ ‵ (fdies An′.mir l₀) ∷ []) (runs C Λ En pieces.t-16 (atRet En Post))
       part-5 g7 g8 g9 g10 g11 g12 g13 e18 e20 =
           calls-value ! fm (said-in.signature .params) An.the-row (said-in.ended .kept) (said-in.clauses 𝓤 H A mem run) known-said-in (valsLi, tt) (makesLi, tt) valAn (EL.tells An.the-type An′.the-laws)
           (y, tt) (g11, tt) tt (id⊢ 𝓤 (emp 𝓤)) r₀ (λ r e′. id⊢ 𝓤 (fact 𝓤 (r ≡ r₀))) (and-then ! (reads ! (from ! (stop !)) (look ! 23 refl)) (no-more !)) (λ g0.
@@ -321,8 +339,8 @@ module _ {M : Type 1} (𝓤 : URA M) (H : Heap 𝓤) (A : Atoms 𝓤) (W : Given
           move ! (44 ∷ 45 ∷ []) $ free1 ! $ move ! (42 ∷ 43 ∷ []) $ free1 ! $ move ! (40 ∷ 41 ∷ []) $ free1 ! $ move ! (38 ∷ 39 ∷ []) $ free1 ! $ move ! (36 ∷ 37 ∷ []) $ free1 ! $ move ! (34 ∷ 35 ∷ []) $ free1 ! $ move ! (32 ∷ 33 ∷ []) $ free1 ! $ move ! (30 ∷ 31 ∷ []) $ free1 ! $ move ! (28 ∷ 29 ∷ []) $ free1 ! $ move ! (26 ∷ 27 ∷ []) $ free1 ! $ move ! (24 ∷ 25 ∷ []) $ free1 ! $ move ! (22 ∷ 23 ∷ []) $ free1 ! $ move ! (20 ∷ 21 ∷ []) $ free1 ! $ move ! (18 ∷ 19 ∷ []) $ free1 ! $ move ! (16 ∷ 17 ∷ []) $ free1 ! $ move ! (14 ∷ 15 ∷ []) $ free1 ! $ move ! (12 ∷ 13 ∷ []) $ free1 ! $ move ! (10 ∷ 11 ∷ []) $ free1 ! $ move ! (8 ∷ 9 ∷ []) $ free1 ! $ move ! (6 ∷ 7 ∷ []) $ free1 ! $ move ! (4 ∷ 5 ∷ []) $ free1 ! $ free0 ! $
           keep ! (2 ∷ 3 ∷ 0 ∷ 1 ∷ []) $ by ! (exits g0 e18 e20))
 
-      part-4 : (g7 : Is u64 i (uint-vals w64 i)) → (g8 : Is usize li (uint-vals w64 li)) → (g9 : Is Pi.the-row (m .proposer) (valsPi (m .proposer))) → (g10 : Is Ea.the-row x (valsEa x)) → (g11 : Is Li.the-row y (valsLi y)) → (g12 : Is Ea.the-row (y .ear) (valsEa (y .ear))) → (e18 : length ls′ ≡ n₀) → Sq W (‵ (Slice Le.the-row κ₀ γ₀ b₀ o₀ n₀ ls′) ∷ ‵ (flft κ₀ q₀) ∷ ‵ (Slice Ms.the-row κ₁ γ₁ b₁ o₁ n₁ t) ∷ ‵ (flft κ₁ q₁)
-          ∷ ‵ (froom (sliceTy (tyRef erased mut (pointee (Ms.the-row .written)))) l₂₀ 0) ∷ ‵ (fdies (sliceTy (tyRef erased mut (pointee (Ms.the-row .written)))) l₂₀) ∷ ‵ (froom (tyRef erased mut (pointee (Ms.the-row .written))) l₁₉ 0) ∷ ‵ (fdies (tyRef erased mut (pointee (Ms.the-row .written))) l₁₉) ∷ ‵ (froom (sliceTy (tyRef erased mut (pointee (Le.the-row .written)))) l₁₈ 0) ∷ ‵ (fdies (sliceTy (tyRef erased mut (pointee (Le.the-row .written)))) l₁₈) ∷ ‵ (froom (tyRef erased mut (pointee (Le.the-row .written))) l₁₇ 0) ∷ ‵ (fdies (tyRef erased mut (pointee (Le.the-row .written))) l₁₇) ∷ ‵ (froom tyUnit l₁₆ 0) ∷ ‵ (fdies tyUnit l₁₆) ∷ ‵ (froom (sliceTy (tyRef erased imm (pointee (Le.the-row .written)))) l₁₅ 0) ∷ ‵ (fdies (sliceTy (tyRef erased imm (pointee (Le.the-row .written)))) l₁₅) ∷ ‵ (froom (tyRef erased imm (pointee (Le.the-row .written))) l₁₄ 0) ∷ ‵ (fdies (tyRef erased imm (pointee (Le.the-row .written))) l₁₄) ∷ ‵ (froom Ms′.mir l₁₃ 0) ∷ ‵ (fdies Ms′.mir l₁₃) ∷ ‵ (fat fullShare Ea′.mir l₁₂ 0 (valEa (y .ear))) ∷ ‵ (fdies Ea′.mir l₁₂) ∷ ‵ (fat fullShare Li′.mir l₁₁ 0 (valLi y)) ∷ ‵ (fdies Li′.mir l₁₁) ∷ ‵ (fat fullShare Ea′.mir l₁₀ 0 (valEa x)) ∷ ‵ (fdies Ea′.mir l₁₀) ∷ ‵ (fat fullShare Pi′.mir l₉ 0 (valPi (m .proposer))) ∷ ‵ (fdies Pi′.mir l₉) ∷ ‵ (fat fullShare word l₈ 0 (vint w64 li)) ∷ ‵ (fdies word l₈) ∷ ‵ (fat fullShare word l₇ 0 (vint w64 i)) ∷ ‵ (fdies word l₇) ∷ ‵ (fat fullShare Ms′.mir l₆ 0 (valMs m)) ∷ ‵ (fdies Ms′.mir l₆) ∷ ‵ (fat fullShare word l₅ 0 (vint w64 k)) ∷ ‵ (fdies word l₅) ∷ ‵ (fat fullShare Ev′.mir l₄ 0 (valEv e)) ∷ ‵ (fdies Ev′.mir l₄) ∷ ‵ (fat fullShare (sliceTy (tyRef (named 1) mut (pointee (Ms.the-row .written)))) l₃ 0 s₁) ∷ ‵ (fdies (sliceTy (tyRef (named 1) mut (pointee (Ms.the-row .written)))) l₃) ∷ ‵ (fat fullShare (sliceTy (tyRef (named 0) mut (pointee (Le.the-row .written)))) l₂ 0 s₀) ∷ ‵ (fdies (sliceTy (tyRef (named 0) mut (pointee (Le.the-row .written)))) l₂) ∷ ‵ (fat fullShare Sz′.mir l₁ 0 (valSz z)) ∷ ‵ (fdies Sz′.mir l₁) ∷ ‵ (froom An′.mir l₀ 0) ∷ ‵ (fdies An′.mir l₀) ∷ []) (runs C Λ En pieces.t-12 (atRet En Post))
+      part-4 : (g7 : Is u64 i (uint-vals w64 i)) → (g8 : Is Ll.the-row lid (valsLl lid)) → (g9 : Is Pi.the-row (m .proposer) (valsPi (m .proposer))) → (g10 : Is Ea.the-row x (valsEa x)) → (g11 : Is Li.the-row y (valsLi y)) → (g12 : Is Ea.the-row (y .ear) (valsEa (y .ear))) → (e18 : length ls′ ≡ n₀) → Sq W (‵ (Slice Le.the-row κ₀ γ₀ b₀ o₀ n₀ ls′) ∷ ‵ (flft κ₀ q₀) ∷ ‵ (Slice Ms.the-row κ₁ γ₁ b₁ o₁ n₁ t) ∷ ‵ (flft κ₁ q₁)
+          ∷ ‵ (froom (sliceTy (tyRef erased mut (pointee (Ms.the-row .written)))) l₂₀ 0) ∷ ‵ (fdies (sliceTy (tyRef erased mut (pointee (Ms.the-row .written)))) l₂₀) ∷ ‵ (froom (tyRef erased mut (pointee (Ms.the-row .written))) l₁₉ 0) ∷ ‵ (fdies (tyRef erased mut (pointee (Ms.the-row .written))) l₁₉) ∷ ‵ (froom (sliceTy (tyRef erased mut (pointee (Le.the-row .written)))) l₁₈ 0) ∷ ‵ (fdies (sliceTy (tyRef erased mut (pointee (Le.the-row .written)))) l₁₈) ∷ ‵ (froom (tyRef erased mut (pointee (Le.the-row .written))) l₁₇ 0) ∷ ‵ (fdies (tyRef erased mut (pointee (Le.the-row .written))) l₁₇) ∷ ‵ (froom tyUnit l₁₆ 0) ∷ ‵ (fdies tyUnit l₁₆) ∷ ‵ (froom (sliceTy (tyRef erased imm (pointee (Le.the-row .written)))) l₁₅ 0) ∷ ‵ (fdies (sliceTy (tyRef erased imm (pointee (Le.the-row .written)))) l₁₅) ∷ ‵ (froom (tyRef erased imm (pointee (Le.the-row .written))) l₁₄ 0) ∷ ‵ (fdies (tyRef erased imm (pointee (Le.the-row .written))) l₁₄) ∷ ‵ (froom Ms′.mir l₁₃ 0) ∷ ‵ (fdies Ms′.mir l₁₃) ∷ ‵ (fat fullShare Ea′.mir l₁₂ 0 (valEa (y .ear))) ∷ ‵ (fdies Ea′.mir l₁₂) ∷ ‵ (fat fullShare Li′.mir l₁₁ 0 (valLi y)) ∷ ‵ (fdies Li′.mir l₁₁) ∷ ‵ (fat fullShare Ea′.mir l₁₀ 0 (valEa x)) ∷ ‵ (fdies Ea′.mir l₁₀) ∷ ‵ (fat fullShare Pi′.mir l₉ 0 (valPi (m .proposer))) ∷ ‵ (fdies Pi′.mir l₉) ∷ ‵ (fat fullShare Ll′.mir l₈ 0 (valLl lid)) ∷ ‵ (fdies Ll′.mir l₈) ∷ ‵ (fat fullShare word l₇ 0 (vint w64 i)) ∷ ‵ (fdies word l₇) ∷ ‵ (fat fullShare Ms′.mir l₆ 0 (valMs m)) ∷ ‵ (fdies Ms′.mir l₆) ∷ ‵ (fat fullShare word l₅ 0 (vint w64 k)) ∷ ‵ (fdies word l₅) ∷ ‵ (fat fullShare Ev′.mir l₄ 0 (valEv e)) ∷ ‵ (fdies Ev′.mir l₄) ∷ ‵ (fat fullShare (sliceTy (tyRef (named 1) mut (pointee (Ms.the-row .written)))) l₃ 0 s₁) ∷ ‵ (fdies (sliceTy (tyRef (named 1) mut (pointee (Ms.the-row .written)))) l₃) ∷ ‵ (fat fullShare (sliceTy (tyRef (named 0) mut (pointee (Le.the-row .written)))) l₂ 0 s₀) ∷ ‵ (fdies (sliceTy (tyRef (named 0) mut (pointee (Le.the-row .written)))) l₂) ∷ ‵ (fat fullShare Sz′.mir l₁ 0 (valSz z)) ∷ ‵ (fdies Sz′.mir l₁) ∷ ‵ (froom An′.mir l₀ 0) ∷ ‵ (fdies An′.mir l₀) ∷ []) (runs C Λ En pieces.t-12 (atRet En Post))
       part-4 g7 g8 g9 g10 g11 g12 e18 =
           calls-value ! fm (slot-heard.signature .params) Ms.the-row (slot-heard.ended .kept) (slot-heard.clauses 𝓤 H A mem run) known-slot-heard (valsLi, (valsMs, tt)) (makesLi, (makesMs, tt)) valMs (LL.tells Ms.the-type Ms′.the-laws)
           (y, (m, tt)) (g11, (gm, tt)) tt (id⊢ 𝓤 (emp 𝓤)) (slotAfter (y .frees) m) (λ r e′. id⊢ 𝓤 (fact 𝓤 (r ≡ (slotAfter (y .frees) m)))) (and-then ! (reads ! (from ! (stop !)) (look ! 23 refl)) (and-then ! (reads ! (from ! (stop !)) (look ! 33 refl)) (no-more !))) (λ g13.
@@ -338,15 +356,15 @@ module _ {M : Type 1} (𝓤 : URA M) (H : Heap 𝓤) (A : Atoms 𝓤) (W : Given
           forget ! 4 refl $
           part-5 g7 g8 g9 g10 g11 g12 g13 e18 e20))
 
-      part-3 : (g7 : Is u64 i (uint-vals w64 i)) → (g8 : Is usize li (uint-vals w64 li)) → (g9 : Is Pi.the-row (m .proposer) (valsPi (m .proposer))) → (g10 : Is Ea.the-row x (valsEa x)) → (g11 : Is Li.the-row y (valsLi y)) → Sq W (‵ (Slice Le.the-row κ₀ γ₀ b₀ o₀ n₀ ls) ∷ ‵ (flft κ₀ q₀) ∷ ‵ (Slice Ms.the-row κ₁ γ₁ b₁ o₁ n₁ t) ∷ ‵ (flft κ₁ q₁)
-          ∷ ‵ (froom (sliceTy (tyRef erased mut (pointee (Ms.the-row .written)))) l₂₀ 0) ∷ ‵ (fdies (sliceTy (tyRef erased mut (pointee (Ms.the-row .written)))) l₂₀) ∷ ‵ (froom (tyRef erased mut (pointee (Ms.the-row .written))) l₁₉ 0) ∷ ‵ (fdies (tyRef erased mut (pointee (Ms.the-row .written))) l₁₉) ∷ ‵ (froom (sliceTy (tyRef erased mut (pointee (Le.the-row .written)))) l₁₈ 0) ∷ ‵ (fdies (sliceTy (tyRef erased mut (pointee (Le.the-row .written)))) l₁₈) ∷ ‵ (froom (tyRef erased mut (pointee (Le.the-row .written))) l₁₇ 0) ∷ ‵ (fdies (tyRef erased mut (pointee (Le.the-row .written))) l₁₇) ∷ ‵ (froom tyUnit l₁₆ 0) ∷ ‵ (fdies tyUnit l₁₆) ∷ ‵ (froom (sliceTy (tyRef erased imm (pointee (Le.the-row .written)))) l₁₅ 0) ∷ ‵ (fdies (sliceTy (tyRef erased imm (pointee (Le.the-row .written)))) l₁₅) ∷ ‵ (froom (tyRef erased imm (pointee (Le.the-row .written))) l₁₄ 0) ∷ ‵ (fdies (tyRef erased imm (pointee (Le.the-row .written))) l₁₄) ∷ ‵ (froom Ms′.mir l₁₃ 0) ∷ ‵ (fdies Ms′.mir l₁₃) ∷ ‵ (froom Ea′.mir l₁₂ 0) ∷ ‵ (fdies Ea′.mir l₁₂) ∷ ‵ (fat fullShare Li′.mir l₁₁ 0 (valLi y)) ∷ ‵ (fdies Li′.mir l₁₁) ∷ ‵ (fat fullShare Ea′.mir l₁₀ 0 (valEa x)) ∷ ‵ (fdies Ea′.mir l₁₀) ∷ ‵ (fat fullShare Pi′.mir l₉ 0 (valPi (m .proposer))) ∷ ‵ (fdies Pi′.mir l₉) ∷ ‵ (fat fullShare word l₈ 0 (vint w64 li)) ∷ ‵ (fdies word l₈) ∷ ‵ (fat fullShare word l₇ 0 (vint w64 i)) ∷ ‵ (fdies word l₇) ∷ ‵ (fat fullShare Ms′.mir l₆ 0 (valMs m)) ∷ ‵ (fdies Ms′.mir l₆) ∷ ‵ (fat fullShare word l₅ 0 (vint w64 k)) ∷ ‵ (fdies word l₅) ∷ ‵ (fat fullShare Ev′.mir l₄ 0 (valEv e)) ∷ ‵ (fdies Ev′.mir l₄) ∷ ‵ (fat fullShare (sliceTy (tyRef (named 1) mut (pointee (Ms.the-row .written)))) l₃ 0 s₁) ∷ ‵ (fdies (sliceTy (tyRef (named 1) mut (pointee (Ms.the-row .written)))) l₃) ∷ ‵ (fat fullShare (sliceTy (tyRef (named 0) mut (pointee (Le.the-row .written)))) l₂ 0 s₀) ∷ ‵ (fdies (sliceTy (tyRef (named 0) mut (pointee (Le.the-row .written)))) l₂) ∷ ‵ (fat fullShare Sz′.mir l₁ 0 (valSz z)) ∷ ‵ (fdies Sz′.mir l₁) ∷ ‵ (froom An′.mir l₀ 0) ∷ ‵ (fdies An′.mir l₀) ∷ []) (runs C Λ En pieces.t-8 (atRet En Post))
+      part-3 : (g7 : Is u64 i (uint-vals w64 i)) → (g8 : Is Ll.the-row lid (valsLl lid)) → (g9 : Is Pi.the-row (m .proposer) (valsPi (m .proposer))) → (g10 : Is Ea.the-row x (valsEa x)) → (g11 : Is Li.the-row y (valsLi y)) → Sq W (‵ (Slice Le.the-row κ₀ γ₀ b₀ o₀ n₀ ls) ∷ ‵ (flft κ₀ q₀) ∷ ‵ (Slice Ms.the-row κ₁ γ₁ b₁ o₁ n₁ t) ∷ ‵ (flft κ₁ q₁)
+          ∷ ‵ (froom (sliceTy (tyRef erased mut (pointee (Ms.the-row .written)))) l₂₀ 0) ∷ ‵ (fdies (sliceTy (tyRef erased mut (pointee (Ms.the-row .written)))) l₂₀) ∷ ‵ (froom (tyRef erased mut (pointee (Ms.the-row .written))) l₁₉ 0) ∷ ‵ (fdies (tyRef erased mut (pointee (Ms.the-row .written))) l₁₉) ∷ ‵ (froom (sliceTy (tyRef erased mut (pointee (Le.the-row .written)))) l₁₈ 0) ∷ ‵ (fdies (sliceTy (tyRef erased mut (pointee (Le.the-row .written)))) l₁₈) ∷ ‵ (froom (tyRef erased mut (pointee (Le.the-row .written))) l₁₇ 0) ∷ ‵ (fdies (tyRef erased mut (pointee (Le.the-row .written))) l₁₇) ∷ ‵ (froom tyUnit l₁₆ 0) ∷ ‵ (fdies tyUnit l₁₆) ∷ ‵ (froom (sliceTy (tyRef erased imm (pointee (Le.the-row .written)))) l₁₅ 0) ∷ ‵ (fdies (sliceTy (tyRef erased imm (pointee (Le.the-row .written)))) l₁₅) ∷ ‵ (froom (tyRef erased imm (pointee (Le.the-row .written))) l₁₄ 0) ∷ ‵ (fdies (tyRef erased imm (pointee (Le.the-row .written))) l₁₄) ∷ ‵ (froom Ms′.mir l₁₃ 0) ∷ ‵ (fdies Ms′.mir l₁₃) ∷ ‵ (froom Ea′.mir l₁₂ 0) ∷ ‵ (fdies Ea′.mir l₁₂) ∷ ‵ (fat fullShare Li′.mir l₁₁ 0 (valLi y)) ∷ ‵ (fdies Li′.mir l₁₁) ∷ ‵ (fat fullShare Ea′.mir l₁₀ 0 (valEa x)) ∷ ‵ (fdies Ea′.mir l₁₀) ∷ ‵ (fat fullShare Pi′.mir l₉ 0 (valPi (m .proposer))) ∷ ‵ (fdies Pi′.mir l₉) ∷ ‵ (fat fullShare Ll′.mir l₈ 0 (valLl lid)) ∷ ‵ (fdies Ll′.mir l₈) ∷ ‵ (fat fullShare word l₇ 0 (vint w64 i)) ∷ ‵ (fdies word l₇) ∷ ‵ (fat fullShare Ms′.mir l₆ 0 (valMs m)) ∷ ‵ (fdies Ms′.mir l₆) ∷ ‵ (fat fullShare word l₅ 0 (vint w64 k)) ∷ ‵ (fdies word l₅) ∷ ‵ (fat fullShare Ev′.mir l₄ 0 (valEv e)) ∷ ‵ (fdies Ev′.mir l₄) ∷ ‵ (fat fullShare (sliceTy (tyRef (named 1) mut (pointee (Ms.the-row .written)))) l₃ 0 s₁) ∷ ‵ (fdies (sliceTy (tyRef (named 1) mut (pointee (Ms.the-row .written)))) l₃) ∷ ‵ (fat fullShare (sliceTy (tyRef (named 0) mut (pointee (Le.the-row .written)))) l₂ 0 s₀) ∷ ‵ (fdies (sliceTy (tyRef (named 0) mut (pointee (Le.the-row .written)))) l₂) ∷ ‵ (fat fullShare Sz′.mir l₁ 0 (valSz z)) ∷ ‵ (fdies Sz′.mir l₁) ∷ ‵ (froom An′.mir l₀ 0) ∷ ‵ (fdies An′.mir l₀) ∷ []) (runs C Λ En pieces.t-8 (atRet En Post))
       part-3 g7 g8 g9 g10 g11 =
           calls-value ! fm (ear-in.signature .params) Ea.the-row (ear-in.ended .kept) (ear-in.clauses 𝓤 H A mem run) known-ear-in (valsLi, tt) (makesLi, tt) valEa (LL.tells Ea.the-type Ea′.the-laws)
           (y, tt) (g11, tt) tt (id⊢ 𝓤 (emp 𝓤)) (y .ear) (λ r e′. id⊢ 𝓤 (fact 𝓤 (r ≡ (y .ear)))) (and-then ! (reads ! (from ! (stop !)) (look ! 23 refl)) (no-more !)) (λ g12.
           land ! (from ! (stop !)) (init ! 20 refl (typedEa (y .ear) g12)) $
           assigns ! (addr ! (from ! (fld ! refl (hop ! (look-in ! 40 (sub ! 0 refl (whole !))) (stop !))))) (from ! (stop !)) (init ! 10 refl (tt, tt)) $
           assigns ! (agg ! (and-then ! (reads ! (from ! (stop !)) (look ! 10 refl)) (and-then ! (reads ! (from ! (fld ! refl (stop !))) (look-in ! 40 (sub ! 1 refl (whole !)))) (no-more !)))) (from ! (stop !)) (init ! 8 refl (tt, (tt, (record { fits = room₀ .0 }, tt)))) $
-          calls-lent ! fm Le.the-row (plain (λ _. usize) ∷ plain (λ _. Pi.the-row) ∷ plain (λ _. Ea.the-row) ∷ []) Nothing (yes, (yes, (yes, tt))) (λ _. vunit) nothing-tells b₀ o₀ n₀ ls refl (λ ν. (uint-vals w64, (valsPi, (valsEa, tt)))) (λ ν. (uint-makes 𝓤 H A W w64, (makesPi, (makesEa, tt)))) (λ ν. (li, ((m .proposer), ((y .ear), tt)))) (λ ν. (g8, (g9, (g12, tt))))
+          calls-lent ! fm Le.the-row (plain (λ _. Ll.the-row) ∷ plain (λ _. Pi.the-row) ∷ plain (λ _. Ea.the-row) ∷ []) Nothing (yes, (yes, (yes, tt))) (λ _. vunit) nothing-tells b₀ o₀ n₀ ls refl (λ ν. (valsLl, (valsPi, (valsEa, tt)))) (λ ν. (makesLl, (makesPi, (makesEa, tt)))) (λ ν. (lid, ((m .proposer), ((y .ear), tt)))) (λ ν. (g8, (g9, (g12, tt))))
           (store-ear.clauses 𝓤 H A mem run) known-store-ear room₀ tt ls′ (λ ν δ. tt) (λ ν δ. factI 𝓤 _ (emp 𝓤) in-l) (λ ν δ r ws. fact-mono 𝓤 (ws .0 ≡ ls′) ((r ≡ tt) × (ws .0 ≡ ls′)) (λ e′. (refl, e′))) (λ ν δ. (and-then ! (reads ! (from ! (stop !)) (look ! 8 refl)) (and-then ! (reads ! (from ! (stop !)) (look ! 28 refl)) (and-then ! (reads ! (from ! (stop !)) (look ! 26 refl)) (and-then ! (reads ! (from ! (stop !)) (look ! 20 refl)) (no-more !)))))) (λ _ e18.
           land ! (from ! (stop !)) (init ! 12 refl (tt, tt)) $
           forget ! 12 refl $
@@ -354,12 +372,12 @@ module _ {M : Type 1} (𝓤 : URA M) (H : Heap 𝓤) (A : Atoms 𝓤) (W : Given
           forget ! 8 refl $
           part-4 g7 g8 g9 g10 g11 g12 e18))
 
-      part-2 : (g7 : Is u64 i (uint-vals w64 i)) → (g8 : Is usize li (uint-vals w64 li)) → (g9 : Is Pi.the-row (m .proposer) (valsPi (m .proposer))) → Sq W (‵ (Slice Le.the-row κ₀ γ₀ b₀ o₀ n₀ ls) ∷ ‵ (flft κ₀ q₀) ∷ ‵ (Slice Ms.the-row κ₁ γ₁ b₁ o₁ n₁ t) ∷ ‵ (flft κ₁ q₁)
-          ∷ ‵ (froom (sliceTy (tyRef erased mut (pointee (Ms.the-row .written)))) l₂₀ 0) ∷ ‵ (fdies (sliceTy (tyRef erased mut (pointee (Ms.the-row .written)))) l₂₀) ∷ ‵ (froom (tyRef erased mut (pointee (Ms.the-row .written))) l₁₉ 0) ∷ ‵ (fdies (tyRef erased mut (pointee (Ms.the-row .written))) l₁₉) ∷ ‵ (froom (sliceTy (tyRef erased mut (pointee (Le.the-row .written)))) l₁₈ 0) ∷ ‵ (fdies (sliceTy (tyRef erased mut (pointee (Le.the-row .written)))) l₁₈) ∷ ‵ (froom (tyRef erased mut (pointee (Le.the-row .written))) l₁₇ 0) ∷ ‵ (fdies (tyRef erased mut (pointee (Le.the-row .written))) l₁₇) ∷ ‵ (froom tyUnit l₁₆ 0) ∷ ‵ (fdies tyUnit l₁₆) ∷ ‵ (froom (sliceTy (tyRef erased imm (pointee (Le.the-row .written)))) l₁₅ 0) ∷ ‵ (fdies (sliceTy (tyRef erased imm (pointee (Le.the-row .written)))) l₁₅) ∷ ‵ (froom (tyRef erased imm (pointee (Le.the-row .written))) l₁₄ 0) ∷ ‵ (fdies (tyRef erased imm (pointee (Le.the-row .written))) l₁₄) ∷ ‵ (froom Ms′.mir l₁₃ 0) ∷ ‵ (fdies Ms′.mir l₁₃) ∷ ‵ (froom Ea′.mir l₁₂ 0) ∷ ‵ (fdies Ea′.mir l₁₂) ∷ ‵ (froom Li′.mir l₁₁ 0) ∷ ‵ (fdies Li′.mir l₁₁) ∷ ‵ (froom Ea′.mir l₁₀ 0) ∷ ‵ (fdies Ea′.mir l₁₀) ∷ ‵ (fat fullShare Pi′.mir l₉ 0 (valPi (m .proposer))) ∷ ‵ (fdies Pi′.mir l₉) ∷ ‵ (fat fullShare word l₈ 0 (vint w64 li)) ∷ ‵ (fdies word l₈) ∷ ‵ (fat fullShare word l₇ 0 (vint w64 i)) ∷ ‵ (fdies word l₇) ∷ ‵ (fat fullShare Ms′.mir l₆ 0 (valMs m)) ∷ ‵ (fdies Ms′.mir l₆) ∷ ‵ (fat fullShare word l₅ 0 (vint w64 k)) ∷ ‵ (fdies word l₅) ∷ ‵ (fat fullShare Ev′.mir l₄ 0 (valEv e)) ∷ ‵ (fdies Ev′.mir l₄) ∷ ‵ (fat fullShare (sliceTy (tyRef (named 1) mut (pointee (Ms.the-row .written)))) l₃ 0 s₁) ∷ ‵ (fdies (sliceTy (tyRef (named 1) mut (pointee (Ms.the-row .written)))) l₃) ∷ ‵ (fat fullShare (sliceTy (tyRef (named 0) mut (pointee (Le.the-row .written)))) l₂ 0 s₀) ∷ ‵ (fdies (sliceTy (tyRef (named 0) mut (pointee (Le.the-row .written)))) l₂) ∷ ‵ (fat fullShare Sz′.mir l₁ 0 (valSz z)) ∷ ‵ (fdies Sz′.mir l₁) ∷ ‵ (froom An′.mir l₀ 0) ∷ ‵ (fdies An′.mir l₀) ∷ []) (runs C Λ En pieces.t-4 (atRet En Post))
+      part-2 : (g7 : Is u64 i (uint-vals w64 i)) → (g8 : Is Ll.the-row lid (valsLl lid)) → (g9 : Is Pi.the-row (m .proposer) (valsPi (m .proposer))) → Sq W (‵ (Slice Le.the-row κ₀ γ₀ b₀ o₀ n₀ ls) ∷ ‵ (flft κ₀ q₀) ∷ ‵ (Slice Ms.the-row κ₁ γ₁ b₁ o₁ n₁ t) ∷ ‵ (flft κ₁ q₁)
+          ∷ ‵ (froom (sliceTy (tyRef erased mut (pointee (Ms.the-row .written)))) l₂₀ 0) ∷ ‵ (fdies (sliceTy (tyRef erased mut (pointee (Ms.the-row .written)))) l₂₀) ∷ ‵ (froom (tyRef erased mut (pointee (Ms.the-row .written))) l₁₉ 0) ∷ ‵ (fdies (tyRef erased mut (pointee (Ms.the-row .written))) l₁₉) ∷ ‵ (froom (sliceTy (tyRef erased mut (pointee (Le.the-row .written)))) l₁₈ 0) ∷ ‵ (fdies (sliceTy (tyRef erased mut (pointee (Le.the-row .written)))) l₁₈) ∷ ‵ (froom (tyRef erased mut (pointee (Le.the-row .written))) l₁₇ 0) ∷ ‵ (fdies (tyRef erased mut (pointee (Le.the-row .written))) l₁₇) ∷ ‵ (froom tyUnit l₁₆ 0) ∷ ‵ (fdies tyUnit l₁₆) ∷ ‵ (froom (sliceTy (tyRef erased imm (pointee (Le.the-row .written)))) l₁₅ 0) ∷ ‵ (fdies (sliceTy (tyRef erased imm (pointee (Le.the-row .written)))) l₁₅) ∷ ‵ (froom (tyRef erased imm (pointee (Le.the-row .written))) l₁₄ 0) ∷ ‵ (fdies (tyRef erased imm (pointee (Le.the-row .written))) l₁₄) ∷ ‵ (froom Ms′.mir l₁₃ 0) ∷ ‵ (fdies Ms′.mir l₁₃) ∷ ‵ (froom Ea′.mir l₁₂ 0) ∷ ‵ (fdies Ea′.mir l₁₂) ∷ ‵ (froom Li′.mir l₁₁ 0) ∷ ‵ (fdies Li′.mir l₁₁) ∷ ‵ (froom Ea′.mir l₁₀ 0) ∷ ‵ (fdies Ea′.mir l₁₀) ∷ ‵ (fat fullShare Pi′.mir l₉ 0 (valPi (m .proposer))) ∷ ‵ (fdies Pi′.mir l₉) ∷ ‵ (fat fullShare Ll′.mir l₈ 0 (valLl lid)) ∷ ‵ (fdies Ll′.mir l₈) ∷ ‵ (fat fullShare word l₇ 0 (vint w64 i)) ∷ ‵ (fdies word l₇) ∷ ‵ (fat fullShare Ms′.mir l₆ 0 (valMs m)) ∷ ‵ (fdies Ms′.mir l₆) ∷ ‵ (fat fullShare word l₅ 0 (vint w64 k)) ∷ ‵ (fdies word l₅) ∷ ‵ (fat fullShare Ev′.mir l₄ 0 (valEv e)) ∷ ‵ (fdies Ev′.mir l₄) ∷ ‵ (fat fullShare (sliceTy (tyRef (named 1) mut (pointee (Ms.the-row .written)))) l₃ 0 s₁) ∷ ‵ (fdies (sliceTy (tyRef (named 1) mut (pointee (Ms.the-row .written)))) l₃) ∷ ‵ (fat fullShare (sliceTy (tyRef (named 0) mut (pointee (Le.the-row .written)))) l₂ 0 s₀) ∷ ‵ (fdies (sliceTy (tyRef (named 0) mut (pointee (Le.the-row .written)))) l₂) ∷ ‵ (fat fullShare Sz′.mir l₁ 0 (valSz z)) ∷ ‵ (fdies Sz′.mir l₁) ∷ ‵ (froom An′.mir l₀ 0) ∷ ‵ (fdies An′.mir l₀) ∷ []) (runs C Λ En pieces.t-4 (atRet En Post))
       part-2 g7 g8 g9 =
           assigns ! (addr ! (from ! (fld ! refl (hop ! (look-in ! 40 (sub ! 0 refl (whole !))) (stop !))))) (from ! (stop !)) (init ! 16 refl (tt, tt)) $
           assigns ! (agg ! (and-then ! (reads ! (from ! (stop !)) (look ! 16 refl)) (and-then ! (reads ! (from ! (fld ! refl (stop !))) (look-in ! 40 (sub ! 1 refl (whole !)))) (no-more !)))) (from ! (stop !)) (init ! 14 refl (tt, (tt, (record { fits = room₀ .0 }, tt)))) $
-          calls-shared ! fm Le.the-row (plain (λ _. usize) ∷ plain (λ _. Pi.the-row) ∷ []) Ea.the-row (yes, (yes, tt)) valEa (LL.tells Ea.the-type Ea′.the-laws) b₀ o₀ n₀ ls refl (λ ν. (uint-vals w64, (valsPi, tt))) (λ ν. (uint-makes 𝓤 H A W w64, (makesPi, tt))) (λ ν. (li, ((m .proposer), tt))) (λ ν. (g8, (g9, tt)))
+          calls-shared ! fm Le.the-row (plain (λ _. Ll.the-row) ∷ plain (λ _. Pi.the-row) ∷ []) Ea.the-row (yes, (yes, tt)) valEa (LL.tells Ea.the-type Ea′.the-laws) b₀ o₀ n₀ ls refl (λ ν. (valsLl, (valsPi, tt))) (λ ν. (makesLl, (makesPi, tt))) (λ ν. (lid, ((m .proposer), tt))) (λ ν. (g8, (g9, tt)))
           (load-ear.clauses 𝓤 H A mem run) known-load-ear x (λ ν δ. tt) (λ ν δ. factI 𝓤 _ (emp 𝓤) in-l) (λ ν δ r e′. id⊢ 𝓤 (fact 𝓤 (r ≡ x))) (λ ν δ. (and-then ! (reads ! (from ! (stop !)) (look ! 17 refl)) (and-then ! (reads ! (from ! (stop !)) (look ! 31 refl)) (and-then ! (reads ! (from ! (stop !)) (look ! 29 refl)) (no-more !))))) (λ g10.
           land ! (from ! (stop !)) (init ! 24 refl (typedEa x g10)) $
           calls-value ! fm (listen.signature .params) Li.the-row (listen.ended .kept) (listen.clauses 𝓤 H A mem run) known-listen (valsSz, (valsEv, (valsMs, (valsEa, tt)))) (makesSz, (makesEv, (makesMs, (makesEa, tt)))) valLi (LL.tells Li.the-type Li′.the-laws)
@@ -370,14 +388,14 @@ module _ {M : Type 1} (𝓤 : URA M) (H : Heap 𝓤) (A : Atoms 𝓤) (W : Given
           part-3 g7 g8 g9 g10 g11))
 
       part-1 : Sq W (‵ (Slice Le.the-row κ₀ γ₀ b₀ o₀ n₀ ls) ∷ ‵ (flft κ₀ q₀) ∷ ‵ (Slice Ms.the-row κ₁ γ₁ b₁ o₁ n₁ t) ∷ ‵ (flft κ₁ q₁)
-          ∷ ‵ (froom (sliceTy (tyRef erased mut (pointee (Ms.the-row .written)))) l₂₀ 0) ∷ ‵ (fdies (sliceTy (tyRef erased mut (pointee (Ms.the-row .written)))) l₂₀) ∷ ‵ (froom (tyRef erased mut (pointee (Ms.the-row .written))) l₁₉ 0) ∷ ‵ (fdies (tyRef erased mut (pointee (Ms.the-row .written))) l₁₉) ∷ ‵ (froom (sliceTy (tyRef erased mut (pointee (Le.the-row .written)))) l₁₈ 0) ∷ ‵ (fdies (sliceTy (tyRef erased mut (pointee (Le.the-row .written)))) l₁₈) ∷ ‵ (froom (tyRef erased mut (pointee (Le.the-row .written))) l₁₇ 0) ∷ ‵ (fdies (tyRef erased mut (pointee (Le.the-row .written))) l₁₇) ∷ ‵ (froom tyUnit l₁₆ 0) ∷ ‵ (fdies tyUnit l₁₆) ∷ ‵ (froom (sliceTy (tyRef erased imm (pointee (Le.the-row .written)))) l₁₅ 0) ∷ ‵ (fdies (sliceTy (tyRef erased imm (pointee (Le.the-row .written)))) l₁₅) ∷ ‵ (froom (tyRef erased imm (pointee (Le.the-row .written))) l₁₄ 0) ∷ ‵ (fdies (tyRef erased imm (pointee (Le.the-row .written))) l₁₄) ∷ ‵ (froom Ms′.mir l₁₃ 0) ∷ ‵ (fdies Ms′.mir l₁₃) ∷ ‵ (froom Ea′.mir l₁₂ 0) ∷ ‵ (fdies Ea′.mir l₁₂) ∷ ‵ (froom Li′.mir l₁₁ 0) ∷ ‵ (fdies Li′.mir l₁₁) ∷ ‵ (froom Ea′.mir l₁₀ 0) ∷ ‵ (fdies Ea′.mir l₁₀) ∷ ‵ (froom Pi′.mir l₉ 0) ∷ ‵ (fdies Pi′.mir l₉) ∷ ‵ (froom word l₈ 0) ∷ ‵ (fdies word l₈) ∷ ‵ (froom word l₇ 0) ∷ ‵ (fdies word l₇) ∷ ‵ (fat fullShare Ms′.mir l₆ 0 (valMs m)) ∷ ‵ (fdies Ms′.mir l₆) ∷ ‵ (fat fullShare word l₅ 0 (vint w64 k)) ∷ ‵ (fdies word l₅) ∷ ‵ (fat fullShare Ev′.mir l₄ 0 (valEv e)) ∷ ‵ (fdies Ev′.mir l₄) ∷ ‵ (fat fullShare (sliceTy (tyRef (named 1) mut (pointee (Ms.the-row .written)))) l₃ 0 s₁) ∷ ‵ (fdies (sliceTy (tyRef (named 1) mut (pointee (Ms.the-row .written)))) l₃) ∷ ‵ (fat fullShare (sliceTy (tyRef (named 0) mut (pointee (Le.the-row .written)))) l₂ 0 s₀) ∷ ‵ (fdies (sliceTy (tyRef (named 0) mut (pointee (Le.the-row .written)))) l₂) ∷ ‵ (fat fullShare Sz′.mir l₁ 0 (valSz z)) ∷ ‵ (fdies Sz′.mir l₁) ∷ ‵ (froom An′.mir l₀ 0) ∷ ‵ (fdies An′.mir l₀) ∷ []) (runs C Λ En pieces.t-1 (atRet En Post))
+          ∷ ‵ (froom (sliceTy (tyRef erased mut (pointee (Ms.the-row .written)))) l₂₀ 0) ∷ ‵ (fdies (sliceTy (tyRef erased mut (pointee (Ms.the-row .written)))) l₂₀) ∷ ‵ (froom (tyRef erased mut (pointee (Ms.the-row .written))) l₁₉ 0) ∷ ‵ (fdies (tyRef erased mut (pointee (Ms.the-row .written))) l₁₉) ∷ ‵ (froom (sliceTy (tyRef erased mut (pointee (Le.the-row .written)))) l₁₈ 0) ∷ ‵ (fdies (sliceTy (tyRef erased mut (pointee (Le.the-row .written)))) l₁₈) ∷ ‵ (froom (tyRef erased mut (pointee (Le.the-row .written))) l₁₇ 0) ∷ ‵ (fdies (tyRef erased mut (pointee (Le.the-row .written))) l₁₇) ∷ ‵ (froom tyUnit l₁₆ 0) ∷ ‵ (fdies tyUnit l₁₆) ∷ ‵ (froom (sliceTy (tyRef erased imm (pointee (Le.the-row .written)))) l₁₅ 0) ∷ ‵ (fdies (sliceTy (tyRef erased imm (pointee (Le.the-row .written)))) l₁₅) ∷ ‵ (froom (tyRef erased imm (pointee (Le.the-row .written))) l₁₄ 0) ∷ ‵ (fdies (tyRef erased imm (pointee (Le.the-row .written))) l₁₄) ∷ ‵ (froom Ms′.mir l₁₃ 0) ∷ ‵ (fdies Ms′.mir l₁₃) ∷ ‵ (froom Ea′.mir l₁₂ 0) ∷ ‵ (fdies Ea′.mir l₁₂) ∷ ‵ (froom Li′.mir l₁₁ 0) ∷ ‵ (fdies Li′.mir l₁₁) ∷ ‵ (froom Ea′.mir l₁₀ 0) ∷ ‵ (fdies Ea′.mir l₁₀) ∷ ‵ (froom Pi′.mir l₉ 0) ∷ ‵ (fdies Pi′.mir l₉) ∷ ‵ (froom Ll′.mir l₈ 0) ∷ ‵ (fdies Ll′.mir l₈) ∷ ‵ (froom word l₇ 0) ∷ ‵ (fdies word l₇) ∷ ‵ (fat fullShare Ms′.mir l₆ 0 (valMs m)) ∷ ‵ (fdies Ms′.mir l₆) ∷ ‵ (fat fullShare word l₅ 0 (vint w64 k)) ∷ ‵ (fdies word l₅) ∷ ‵ (fat fullShare Ev′.mir l₄ 0 (valEv e)) ∷ ‵ (fdies Ev′.mir l₄) ∷ ‵ (fat fullShare (sliceTy (tyRef (named 1) mut (pointee (Ms.the-row .written)))) l₃ 0 s₁) ∷ ‵ (fdies (sliceTy (tyRef (named 1) mut (pointee (Ms.the-row .written)))) l₃) ∷ ‵ (fat fullShare (sliceTy (tyRef (named 0) mut (pointee (Le.the-row .written)))) l₂ 0 s₀) ∷ ‵ (fdies (sliceTy (tyRef (named 0) mut (pointee (Le.the-row .written)))) l₂) ∷ ‵ (fat fullShare Sz′.mir l₁ 0 (valSz z)) ∷ ‵ (fdies Sz′.mir l₁) ∷ ‵ (froom An′.mir l₀ 0) ∷ ‵ (fdies An′.mir l₀) ∷ []) (runs C Λ En pieces.t-1 (atRet En Post))
       part-1 =
           calls-value ! fm (party-of.signature .params) u64 (party-of.ended .kept) (party-of.clauses 𝓤 H A mem run) known-party-of (valsEv, (valsMs, tt)) (makesEv, (makesMs, tt)) (vint w64) (uint-tells w64)
           (e, (m, tt)) (ge, (gm, tt)) tt (id⊢ 𝓤 (emp 𝓤)) i (λ r e′. id⊢ 𝓤 (fact 𝓤 (r ≡ i))) (and-then ! (reads ! (from ! (stop !)) (look ! 37 refl)) (and-then ! (reads ! (from ! (stop !)) (look ! 33 refl)) (no-more !))) (λ g7.
           land ! (from ! (stop !)) (init ! 30 refl (tt, record { fits = g7 .1 })) $
-          calls-value ! fm (learner-at.signature .params) usize (learner-at.ended .kept) (learner-at.clauses 𝓤 H A mem run) known-learner-at (valsSz, (uint-vals w64, tt)) (makesSz, (uint-makes 𝓤 H A W w64, tt)) (vint w64) (uint-tells w64)
-          (z, (i, tt)) (gz, (g7, tt)) tt (id⊢ 𝓤 (emp 𝓤)) li (λ r e′. id⊢ 𝓤 (fact 𝓤 (r ≡ li))) (and-then ! (reads ! (from ! (stop !)) (look ! 43 refl)) (and-then ! (reads ! (from ! (stop !)) (look ! 31 refl)) (no-more !))) (λ g8.
-          land ! (from ! (stop !)) (init ! 28 refl (tt, record { fits = g8 .1 })) $
+          calls-value ! fm (learner-at.signature .params) Ll.the-row (learner-at.ended .kept) (learner-at.clauses 𝓤 H A mem run) known-learner-at (valsSz, (uint-vals w64, tt)) (makesSz, (uint-makes 𝓤 H A W w64, tt)) valLl (LL.tells Ll.the-type Ll′.the-laws)
+          (z, (i, tt)) (gz, (g7, tt)) tt (factI 𝓤 _ (emp 𝓤) (fit .1 .1 .0)) lid (λ r e′. id⊢ 𝓤 (fact 𝓤 (r ≡ lid))) (and-then ! (reads ! (from ! (stop !)) (look ! 43 refl)) (and-then ! (reads ! (from ! (stop !)) (look ! 31 refl)) (no-more !))) (λ g8.
+          land ! (from ! (stop !)) (init ! 28 refl (typedLl lid g8)) $
           calls-value ! fm (proposer-of.signature .params) Pi.the-row (proposer-of.ended .kept) (proposer-of.clauses 𝓤 H A mem run) known-proposer-of (valsMs, tt) (makesMs, tt) valPi (LL.tells Pi.the-type Pi′.the-laws)
           (m, tt) (gm, tt) tt (id⊢ 𝓤 (emp 𝓤)) (m .proposer) (λ r e′. id⊢ 𝓤 (fact 𝓤 (r ≡ (m .proposer)))) (and-then ! (reads ! (from ! (stop !)) (look ! 33 refl)) (no-more !)) (λ g9.
           land ! (from ! (stop !)) (init ! 26 refl (typedPi (m .proposer) g9)) $

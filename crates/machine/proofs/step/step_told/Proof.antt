@@ -67,6 +67,9 @@ use Rattle.model.proofs.Event.Laws as Ev′
 use Rattle.machine.specs.declared.step.Decision.{Decision}
 use Rattle.machine.proofs.step.Decision as Dn
 use Rattle.machine.proofs.step.Decision.Laws as Dn′
+use Rattle.sets.specs.declared.ProposerId.{ProposerId}
+use Rattle.sets.proofs.ProposerId as Pi
+use Rattle.sets.proofs.ProposerId.Laws as Pi′
 use Rattle.model.specs.declared.Answer.{Answer}
 use Rattle.model.proofs.Answer as An
 use Rattle.model.proofs.Answer.Laws as An′
@@ -142,6 +145,12 @@ valsDn = LL.vals Dn.the-type Dn′.the-laws
 abbrev valDn : Decision → Val
 valDn = LL.val Dn.the-type Dn′.the-laws
 
+abbrev valsPi : ProposerId → List Val
+valsPi = LL.vals Pi.the-type Pi′.the-laws
+
+abbrev valPi : ProposerId → Val
+valPi = LL.val Pi.the-type Pi′.the-laws
+
 abbrev valsAn : Answer → List Val
 valsAn = EL.vals An.the-type An′.the-laws
 
@@ -209,6 +218,9 @@ module _ {M : Type 1} (𝓤 : URA M) (H : Heap 𝓤) (A : Atoms 𝓤) (W : Given
   abbrev pi : ℕ
   pi = within i (z .proposers)
 
+  abbrev pid : ProposerId
+  pid = record { 0 = pi }
+
   abbrev q : Proposer
   q = getD ps pi freshProposer
 
@@ -263,6 +275,12 @@ module _ {M : Type 1} (𝓤 : URA M) (H : Heap 𝓤) (A : Atoms 𝓤) (W : Given
   makesDn : Makes 𝓤 H A Dn.the-row (Is Dn.the-row)
   makesDn = LL.makes Dn.the-type Dn′.the-plain 𝓤 H A
 
+  typedPi : (m : ProposerId) → Is Pi.the-row m (valsPi m) → Holds (hasTy Pi′.mir (valPi m)) × WT (valPi m)
+  typedPi m is = LL.lawful Pi.the-type Pi′.the-laws 𝓤 H A W .typed m (valsPi m) is .0
+
+  makesPi : Makes 𝓤 H A Pi.the-row (Is Pi.the-row)
+  makesPi = LL.makes Pi.the-type Pi′.the-plain 𝓤 H A
+
   typedAn : (m : Answer) → Is An.the-row m (valsAn m) → Holds (hasTy An′.mir (valAn m)) × WT (valAn m)
   typedAn m is = EL.lawful An.the-type An′.the-laws 𝓤 H A W tt .typed m (valsAn m) is .0
 
@@ -289,10 +307,10 @@ module _ {M : Type 1} (𝓤 : URA M) (H : Heap 𝓤) (A : Atoms 𝓤) (W : Given
 
     module _ (l₀ l₁ l₂ l₃ l₄ l₅ l₆ l₇ l₈ l₉ l₁₀ l₁₁ l₁₂ l₁₃ l₁₄ l₁₅ l₁₆ l₁₇ l₁₈ l₁₉ : ℕ) where
       abbrev En : Env 𝓤 H
-      En = (An′.mir, l₀) ∷ (Sz′.mir, l₁) ∷ ((sliceTy (tyRef (named 0) mut (pointee (Pr.the-row .written)))), l₂) ∷ ((sliceTy (tyRef (named 1) mut (pointee (Ms.the-row .written)))), l₃) ∷ (Ev′.mir, l₄) ∷ (word, l₅) ∷ (Ms′.mir, l₆) ∷ (word, l₇) ∷ (word, l₈) ∷ (Pr′.mir, l₉) ∷ (Dn′.mir, l₁₀) ∷ (Pr′.mir, l₁₁) ∷ (Ms′.mir, l₁₂) ∷ ((tyRef erased imm (pointee (Pr.the-row .written))), l₁₃) ∷ ((sliceTy (tyRef erased imm (pointee (Pr.the-row .written)))), l₁₄) ∷ (tyUnit, l₁₅) ∷ ((tyRef erased mut (pointee (Pr.the-row .written))), l₁₆) ∷ ((sliceTy (tyRef erased mut (pointee (Pr.the-row .written)))), l₁₇) ∷ ((tyRef erased mut (pointee (Ms.the-row .written))), l₁₈) ∷ ((sliceTy (tyRef erased mut (pointee (Ms.the-row .written)))), l₁₉) ∷ []
+      En = (An′.mir, l₀) ∷ (Sz′.mir, l₁) ∷ ((sliceTy (tyRef (named 0) mut (pointee (Pr.the-row .written)))), l₂) ∷ ((sliceTy (tyRef (named 1) mut (pointee (Ms.the-row .written)))), l₃) ∷ (Ev′.mir, l₄) ∷ (word, l₅) ∷ (Ms′.mir, l₆) ∷ (word, l₇) ∷ (Pi′.mir, l₈) ∷ (Pr′.mir, l₉) ∷ (Dn′.mir, l₁₀) ∷ (Pr′.mir, l₁₁) ∷ (Ms′.mir, l₁₂) ∷ ((tyRef erased imm (pointee (Pr.the-row .written))), l₁₃) ∷ ((sliceTy (tyRef erased imm (pointee (Pr.the-row .written)))), l₁₄) ∷ (tyUnit, l₁₅) ∷ ((tyRef erased mut (pointee (Pr.the-row .written))), l₁₆) ∷ ((sliceTy (tyRef erased mut (pointee (Pr.the-row .written)))), l₁₇) ∷ ((tyRef erased mut (pointee (Ms.the-row .written))), l₁₈) ∷ ((sliceTy (tyRef erased mut (pointee (Ms.the-row .written)))), l₁₉) ∷ []
 
-      part-5 : (g7 : Is u64 i (uint-vals w64 i)) → (g8 : Is usize pi (uint-vals w64 pi)) → (g9 : Is Pr.the-row q (valsPr q)) → (g10 : Is Dn.the-row f (valsDn f)) → (g11 : Is Pr.the-row (f .change .proposer) (valsPr (f .change .proposer))) → (g12 : Is Ms.the-row m′ (valsMs m′)) → (e17 : length ps′ ≡ n₀) → (e19 : length t′ ≡ n₁) → Sq W (‵ (Slice Ms.the-row κ₁ γ₁ b₁ o₁ n₁ t′) ∷ ‵ (flft κ₁ q₁) ∷ ‵ (Slice Pr.the-row κ₀ γ₀ b₀ o₀ n₀ ps′) ∷ ‵ (flft κ₀ q₀)
-          ∷ ‵ (froom (sliceTy (tyRef erased mut (pointee (Ms.the-row .written)))) l₁₉ 0) ∷ ‵ (fdies (sliceTy (tyRef erased mut (pointee (Ms.the-row .written)))) l₁₉) ∷ ‵ (froom (tyRef erased mut (pointee (Ms.the-row .written))) l₁₈ 0) ∷ ‵ (fdies (tyRef erased mut (pointee (Ms.the-row .written))) l₁₈) ∷ ‵ (froom (sliceTy (tyRef erased mut (pointee (Pr.the-row .written)))) l₁₇ 0) ∷ ‵ (fdies (sliceTy (tyRef erased mut (pointee (Pr.the-row .written)))) l₁₇) ∷ ‵ (froom (tyRef erased mut (pointee (Pr.the-row .written))) l₁₆ 0) ∷ ‵ (fdies (tyRef erased mut (pointee (Pr.the-row .written))) l₁₆) ∷ ‵ (froom tyUnit l₁₅ 0) ∷ ‵ (fdies tyUnit l₁₅) ∷ ‵ (froom (sliceTy (tyRef erased imm (pointee (Pr.the-row .written)))) l₁₄ 0) ∷ ‵ (fdies (sliceTy (tyRef erased imm (pointee (Pr.the-row .written)))) l₁₄) ∷ ‵ (froom (tyRef erased imm (pointee (Pr.the-row .written))) l₁₃ 0) ∷ ‵ (fdies (tyRef erased imm (pointee (Pr.the-row .written))) l₁₃) ∷ ‵ (fat fullShare Ms′.mir l₁₂ 0 (valMs m′)) ∷ ‵ (fdies Ms′.mir l₁₂) ∷ ‵ (fat fullShare Pr′.mir l₁₁ 0 (valPr (f .change .proposer))) ∷ ‵ (fdies Pr′.mir l₁₁) ∷ ‵ (fat fullShare Dn′.mir l₁₀ 0 (valDn f)) ∷ ‵ (fdies Dn′.mir l₁₀) ∷ ‵ (fat fullShare Pr′.mir l₉ 0 (valPr q)) ∷ ‵ (fdies Pr′.mir l₉) ∷ ‵ (fat fullShare word l₈ 0 (vint w64 pi)) ∷ ‵ (fdies word l₈) ∷ ‵ (fat fullShare word l₇ 0 (vint w64 i)) ∷ ‵ (fdies word l₇) ∷ ‵ (fat fullShare Ms′.mir l₆ 0 (valMs m)) ∷ ‵ (fdies Ms′.mir l₆) ∷ ‵ (fat fullShare word l₅ 0 (vint w64 k)) ∷ ‵ (fdies word l₅) ∷ ‵ (fat fullShare Ev′.mir l₄ 0 (valEv e)) ∷ ‵ (fdies Ev′.mir l₄) ∷ ‵ (fat fullShare (sliceTy (tyRef (named 1) mut (pointee (Ms.the-row .written)))) l₃ 0 s₁) ∷ ‵ (fdies (sliceTy (tyRef (named 1) mut (pointee (Ms.the-row .written)))) l₃) ∷ ‵ (fat fullShare (sliceTy (tyRef (named 0) mut (pointee (Pr.the-row .written)))) l₂ 0 s₀) ∷ ‵ (fdies (sliceTy (tyRef (named 0) mut (pointee (Pr.the-row .written)))) l₂) ∷ ‵ (fat fullShare Sz′.mir l₁ 0 (valSz z)) ∷ ‵ (fdies Sz′.mir l₁) ∷ ‵ (froom An′.mir l₀ 0) ∷ ‵ (fdies An′.mir l₀) ∷ []) (runs C Λ En pieces.t-15 (atRet En Post))
+      part-5 : (g7 : Is u64 i (uint-vals w64 i)) → (g8 : Is Pi.the-row pid (valsPi pid)) → (g9 : Is Pr.the-row q (valsPr q)) → (g10 : Is Dn.the-row f (valsDn f)) → (g11 : Is Pr.the-row (f .change .proposer) (valsPr (f .change .proposer))) → (g12 : Is Ms.the-row m′ (valsMs m′)) → (e17 : length ps′ ≡ n₀) → (e19 : length t′ ≡ n₁) → Sq W (‵ (Slice Ms.the-row κ₁ γ₁ b₁ o₁ n₁ t′) ∷ ‵ (flft κ₁ q₁) ∷ ‵ (Slice Pr.the-row κ₀ γ₀ b₀ o₀ n₀ ps′) ∷ ‵ (flft κ₀ q₀)
+          ∷ ‵ (froom (sliceTy (tyRef erased mut (pointee (Ms.the-row .written)))) l₁₉ 0) ∷ ‵ (fdies (sliceTy (tyRef erased mut (pointee (Ms.the-row .written)))) l₁₉) ∷ ‵ (froom (tyRef erased mut (pointee (Ms.the-row .written))) l₁₈ 0) ∷ ‵ (fdies (tyRef erased mut (pointee (Ms.the-row .written))) l₁₈) ∷ ‵ (froom (sliceTy (tyRef erased mut (pointee (Pr.the-row .written)))) l₁₇ 0) ∷ ‵ (fdies (sliceTy (tyRef erased mut (pointee (Pr.the-row .written)))) l₁₇) ∷ ‵ (froom (tyRef erased mut (pointee (Pr.the-row .written))) l₁₆ 0) ∷ ‵ (fdies (tyRef erased mut (pointee (Pr.the-row .written))) l₁₆) ∷ ‵ (froom tyUnit l₁₅ 0) ∷ ‵ (fdies tyUnit l₁₅) ∷ ‵ (froom (sliceTy (tyRef erased imm (pointee (Pr.the-row .written)))) l₁₄ 0) ∷ ‵ (fdies (sliceTy (tyRef erased imm (pointee (Pr.the-row .written)))) l₁₄) ∷ ‵ (froom (tyRef erased imm (pointee (Pr.the-row .written))) l₁₃ 0) ∷ ‵ (fdies (tyRef erased imm (pointee (Pr.the-row .written))) l₁₃) ∷ ‵ (fat fullShare Ms′.mir l₁₂ 0 (valMs m′)) ∷ ‵ (fdies Ms′.mir l₁₂) ∷ ‵ (fat fullShare Pr′.mir l₁₁ 0 (valPr (f .change .proposer))) ∷ ‵ (fdies Pr′.mir l₁₁) ∷ ‵ (fat fullShare Dn′.mir l₁₀ 0 (valDn f)) ∷ ‵ (fdies Dn′.mir l₁₀) ∷ ‵ (fat fullShare Pr′.mir l₉ 0 (valPr q)) ∷ ‵ (fdies Pr′.mir l₉) ∷ ‵ (fat fullShare Pi′.mir l₈ 0 (valPi pid)) ∷ ‵ (fdies Pi′.mir l₈) ∷ ‵ (fat fullShare word l₇ 0 (vint w64 i)) ∷ ‵ (fdies word l₇) ∷ ‵ (fat fullShare Ms′.mir l₆ 0 (valMs m)) ∷ ‵ (fdies Ms′.mir l₆) ∷ ‵ (fat fullShare word l₅ 0 (vint w64 k)) ∷ ‵ (fdies word l₅) ∷ ‵ (fat fullShare Ev′.mir l₄ 0 (valEv e)) ∷ ‵ (fdies Ev′.mir l₄) ∷ ‵ (fat fullShare (sliceTy (tyRef (named 1) mut (pointee (Ms.the-row .written)))) l₃ 0 s₁) ∷ ‵ (fdies (sliceTy (tyRef (named 1) mut (pointee (Ms.the-row .written)))) l₃) ∷ ‵ (fat fullShare (sliceTy (tyRef (named 0) mut (pointee (Pr.the-row .written)))) l₂ 0 s₀) ∷ ‵ (fdies (sliceTy (tyRef (named 0) mut (pointee (Pr.the-row .written)))) l₂) ∷ ‵ (fat fullShare Sz′.mir l₁ 0 (valSz z)) ∷ ‵ (fdies Sz′.mir l₁) ∷ ‵ (froom An′.mir l₀ 0) ∷ ‵ (fdies An′.mir l₀) ∷ []) (runs C Λ En pieces.t-15 (atRet En Post))
       part-5 g7 g8 g9 g10 g11 g12 e17 e19 =
           calls-value ! fm (reply.signature .params) An.the-row (reply.ended .kept) (reply.clauses 𝓤 H A mem run) known-reply (valsSz, (valsEv, (valsDn, (valsMs, tt)))) (makesSz, (makesEv, (makesDn, (makesMs, tt)))) valAn (EL.tells An.the-type An′.the-laws)
           (z, (e, (f, (m, tt)))) (gz, (ge, (g10, (gm, tt)))) tt (factI 𝓤 _ (emp 𝓤) (told-quiet z e k m ps t (fit .0))) r₀ (λ r e′. id⊢ 𝓤 (fact 𝓤 (r ≡ r₀))) (and-then ! (reads ! (from ! (stop !)) (look ! 41 refl)) (and-then ! (reads ! (from ! (stop !)) (look ! 35 refl)) (and-then ! (reads ! (from ! (stop !)) (look ! 23 refl)) (and-then ! (reads ! (from ! (stop !)) (look ! 31 refl)) (no-more !))))) (λ g0.
@@ -301,8 +319,8 @@ module _ {M : Type 1} (𝓤 : URA M) (H : Heap 𝓤) (A : Atoms 𝓤) (W : Given
           move ! (42 ∷ 43 ∷ []) $ free1 ! $ move ! (40 ∷ 41 ∷ []) $ free1 ! $ move ! (38 ∷ 39 ∷ []) $ free1 ! $ move ! (36 ∷ 37 ∷ []) $ free1 ! $ move ! (34 ∷ 35 ∷ []) $ free1 ! $ move ! (32 ∷ 33 ∷ []) $ free1 ! $ move ! (30 ∷ 31 ∷ []) $ free1 ! $ move ! (28 ∷ 29 ∷ []) $ free1 ! $ move ! (26 ∷ 27 ∷ []) $ free1 ! $ move ! (24 ∷ 25 ∷ []) $ free1 ! $ move ! (22 ∷ 23 ∷ []) $ free1 ! $ move ! (20 ∷ 21 ∷ []) $ free1 ! $ move ! (18 ∷ 19 ∷ []) $ free1 ! $ move ! (16 ∷ 17 ∷ []) $ free1 ! $ move ! (14 ∷ 15 ∷ []) $ free1 ! $ move ! (12 ∷ 13 ∷ []) $ free1 ! $ move ! (10 ∷ 11 ∷ []) $ free1 ! $ move ! (8 ∷ 9 ∷ []) $ free1 ! $ move ! (6 ∷ 7 ∷ []) $ free1 ! $ move ! (4 ∷ 5 ∷ []) $ free1 ! $ free0 ! $
           keep ! (2 ∷ 3 ∷ 0 ∷ 1 ∷ []) $ by ! (exits g0 e17 e19))
 
-      part-4 : (g7 : Is u64 i (uint-vals w64 i)) → (g8 : Is usize pi (uint-vals w64 pi)) → (g9 : Is Pr.the-row q (valsPr q)) → (g10 : Is Dn.the-row f (valsDn f)) → (g11 : Is Pr.the-row (f .change .proposer) (valsPr (f .change .proposer))) → (e17 : length ps′ ≡ n₀) → Sq W (‵ (Slice Pr.the-row κ₀ γ₀ b₀ o₀ n₀ ps′) ∷ ‵ (flft κ₀ q₀) ∷ ‵ (Slice Ms.the-row κ₁ γ₁ b₁ o₁ n₁ t) ∷ ‵ (flft κ₁ q₁)
-          ∷ ‵ (froom (sliceTy (tyRef erased mut (pointee (Ms.the-row .written)))) l₁₉ 0) ∷ ‵ (fdies (sliceTy (tyRef erased mut (pointee (Ms.the-row .written)))) l₁₉) ∷ ‵ (froom (tyRef erased mut (pointee (Ms.the-row .written))) l₁₈ 0) ∷ ‵ (fdies (tyRef erased mut (pointee (Ms.the-row .written))) l₁₈) ∷ ‵ (froom (sliceTy (tyRef erased mut (pointee (Pr.the-row .written)))) l₁₇ 0) ∷ ‵ (fdies (sliceTy (tyRef erased mut (pointee (Pr.the-row .written)))) l₁₇) ∷ ‵ (froom (tyRef erased mut (pointee (Pr.the-row .written))) l₁₆ 0) ∷ ‵ (fdies (tyRef erased mut (pointee (Pr.the-row .written))) l₁₆) ∷ ‵ (froom tyUnit l₁₅ 0) ∷ ‵ (fdies tyUnit l₁₅) ∷ ‵ (froom (sliceTy (tyRef erased imm (pointee (Pr.the-row .written)))) l₁₄ 0) ∷ ‵ (fdies (sliceTy (tyRef erased imm (pointee (Pr.the-row .written)))) l₁₄) ∷ ‵ (froom (tyRef erased imm (pointee (Pr.the-row .written))) l₁₃ 0) ∷ ‵ (fdies (tyRef erased imm (pointee (Pr.the-row .written))) l₁₃) ∷ ‵ (froom Ms′.mir l₁₂ 0) ∷ ‵ (fdies Ms′.mir l₁₂) ∷ ‵ (fat fullShare Pr′.mir l₁₁ 0 (valPr (f .change .proposer))) ∷ ‵ (fdies Pr′.mir l₁₁) ∷ ‵ (fat fullShare Dn′.mir l₁₀ 0 (valDn f)) ∷ ‵ (fdies Dn′.mir l₁₀) ∷ ‵ (fat fullShare Pr′.mir l₉ 0 (valPr q)) ∷ ‵ (fdies Pr′.mir l₉) ∷ ‵ (fat fullShare word l₈ 0 (vint w64 pi)) ∷ ‵ (fdies word l₈) ∷ ‵ (fat fullShare word l₇ 0 (vint w64 i)) ∷ ‵ (fdies word l₇) ∷ ‵ (fat fullShare Ms′.mir l₆ 0 (valMs m)) ∷ ‵ (fdies Ms′.mir l₆) ∷ ‵ (fat fullShare word l₅ 0 (vint w64 k)) ∷ ‵ (fdies word l₅) ∷ ‵ (fat fullShare Ev′.mir l₄ 0 (valEv e)) ∷ ‵ (fdies Ev′.mir l₄) ∷ ‵ (fat fullShare (sliceTy (tyRef (named 1) mut (pointee (Ms.the-row .written)))) l₃ 0 s₁) ∷ ‵ (fdies (sliceTy (tyRef (named 1) mut (pointee (Ms.the-row .written)))) l₃) ∷ ‵ (fat fullShare (sliceTy (tyRef (named 0) mut (pointee (Pr.the-row .written)))) l₂ 0 s₀) ∷ ‵ (fdies (sliceTy (tyRef (named 0) mut (pointee (Pr.the-row .written)))) l₂) ∷ ‵ (fat fullShare Sz′.mir l₁ 0 (valSz z)) ∷ ‵ (fdies Sz′.mir l₁) ∷ ‵ (froom An′.mir l₀ 0) ∷ ‵ (fdies An′.mir l₀) ∷ []) (runs C Λ En pieces.t-11 (atRet En Post))
+      part-4 : (g7 : Is u64 i (uint-vals w64 i)) → (g8 : Is Pi.the-row pid (valsPi pid)) → (g9 : Is Pr.the-row q (valsPr q)) → (g10 : Is Dn.the-row f (valsDn f)) → (g11 : Is Pr.the-row (f .change .proposer) (valsPr (f .change .proposer))) → (e17 : length ps′ ≡ n₀) → Sq W (‵ (Slice Pr.the-row κ₀ γ₀ b₀ o₀ n₀ ps′) ∷ ‵ (flft κ₀ q₀) ∷ ‵ (Slice Ms.the-row κ₁ γ₁ b₁ o₁ n₁ t) ∷ ‵ (flft κ₁ q₁)
+          ∷ ‵ (froom (sliceTy (tyRef erased mut (pointee (Ms.the-row .written)))) l₁₉ 0) ∷ ‵ (fdies (sliceTy (tyRef erased mut (pointee (Ms.the-row .written)))) l₁₉) ∷ ‵ (froom (tyRef erased mut (pointee (Ms.the-row .written))) l₁₈ 0) ∷ ‵ (fdies (tyRef erased mut (pointee (Ms.the-row .written))) l₁₈) ∷ ‵ (froom (sliceTy (tyRef erased mut (pointee (Pr.the-row .written)))) l₁₇ 0) ∷ ‵ (fdies (sliceTy (tyRef erased mut (pointee (Pr.the-row .written)))) l₁₇) ∷ ‵ (froom (tyRef erased mut (pointee (Pr.the-row .written))) l₁₆ 0) ∷ ‵ (fdies (tyRef erased mut (pointee (Pr.the-row .written))) l₁₆) ∷ ‵ (froom tyUnit l₁₅ 0) ∷ ‵ (fdies tyUnit l₁₅) ∷ ‵ (froom (sliceTy (tyRef erased imm (pointee (Pr.the-row .written)))) l₁₄ 0) ∷ ‵ (fdies (sliceTy (tyRef erased imm (pointee (Pr.the-row .written)))) l₁₄) ∷ ‵ (froom (tyRef erased imm (pointee (Pr.the-row .written))) l₁₃ 0) ∷ ‵ (fdies (tyRef erased imm (pointee (Pr.the-row .written))) l₁₃) ∷ ‵ (froom Ms′.mir l₁₂ 0) ∷ ‵ (fdies Ms′.mir l₁₂) ∷ ‵ (fat fullShare Pr′.mir l₁₁ 0 (valPr (f .change .proposer))) ∷ ‵ (fdies Pr′.mir l₁₁) ∷ ‵ (fat fullShare Dn′.mir l₁₀ 0 (valDn f)) ∷ ‵ (fdies Dn′.mir l₁₀) ∷ ‵ (fat fullShare Pr′.mir l₉ 0 (valPr q)) ∷ ‵ (fdies Pr′.mir l₉) ∷ ‵ (fat fullShare Pi′.mir l₈ 0 (valPi pid)) ∷ ‵ (fdies Pi′.mir l₈) ∷ ‵ (fat fullShare word l₇ 0 (vint w64 i)) ∷ ‵ (fdies word l₇) ∷ ‵ (fat fullShare Ms′.mir l₆ 0 (valMs m)) ∷ ‵ (fdies Ms′.mir l₆) ∷ ‵ (fat fullShare word l₅ 0 (vint w64 k)) ∷ ‵ (fdies word l₅) ∷ ‵ (fat fullShare Ev′.mir l₄ 0 (valEv e)) ∷ ‵ (fdies Ev′.mir l₄) ∷ ‵ (fat fullShare (sliceTy (tyRef (named 1) mut (pointee (Ms.the-row .written)))) l₃ 0 s₁) ∷ ‵ (fdies (sliceTy (tyRef (named 1) mut (pointee (Ms.the-row .written)))) l₃) ∷ ‵ (fat fullShare (sliceTy (tyRef (named 0) mut (pointee (Pr.the-row .written)))) l₂ 0 s₀) ∷ ‵ (fdies (sliceTy (tyRef (named 0) mut (pointee (Pr.the-row .written)))) l₂) ∷ ‵ (fat fullShare Sz′.mir l₁ 0 (valSz z)) ∷ ‵ (fdies Sz′.mir l₁) ∷ ‵ (froom An′.mir l₀ 0) ∷ ‵ (fdies An′.mir l₀) ∷ []) (runs C Λ En pieces.t-11 (atRet En Post))
       part-4 g7 g8 g9 g10 g11 e17 =
           calls-value ! fm (slot-in.signature .params) Ms.the-row (slot-in.ended .kept) (slot-in.clauses 𝓤 H A mem run) known-slot-in (valsDn, (valsMs, tt)) (makesDn, (makesMs, tt)) valMs (LL.tells Ms.the-type Ms′.the-laws)
           (f, (m, tt)) (g10, (gm, tt)) tt (id⊢ 𝓤 (emp 𝓤)) m′ (λ r e′. id⊢ 𝓤 (fact 𝓤 (r ≡ m′))) (and-then ! (reads ! (from ! (stop !)) (look ! 23 refl)) (and-then ! (reads ! (from ! (stop !)) (look ! 31 refl)) (no-more !))) (λ g12.
@@ -318,15 +336,15 @@ module _ {M : Type 1} (𝓤 : URA M) (H : Heap 𝓤) (A : Atoms 𝓤) (W : Given
           forget ! 4 refl $
           part-5 g7 g8 g9 g10 g11 g12 e17 e19))
 
-      part-3 : (g7 : Is u64 i (uint-vals w64 i)) → (g8 : Is usize pi (uint-vals w64 pi)) → (g9 : Is Pr.the-row q (valsPr q)) → (g10 : Is Dn.the-row f (valsDn f)) → Sq W (‵ (Slice Pr.the-row κ₀ γ₀ b₀ o₀ n₀ ps) ∷ ‵ (flft κ₀ q₀) ∷ ‵ (Slice Ms.the-row κ₁ γ₁ b₁ o₁ n₁ t) ∷ ‵ (flft κ₁ q₁)
-          ∷ ‵ (froom (sliceTy (tyRef erased mut (pointee (Ms.the-row .written)))) l₁₉ 0) ∷ ‵ (fdies (sliceTy (tyRef erased mut (pointee (Ms.the-row .written)))) l₁₉) ∷ ‵ (froom (tyRef erased mut (pointee (Ms.the-row .written))) l₁₈ 0) ∷ ‵ (fdies (tyRef erased mut (pointee (Ms.the-row .written))) l₁₈) ∷ ‵ (froom (sliceTy (tyRef erased mut (pointee (Pr.the-row .written)))) l₁₇ 0) ∷ ‵ (fdies (sliceTy (tyRef erased mut (pointee (Pr.the-row .written)))) l₁₇) ∷ ‵ (froom (tyRef erased mut (pointee (Pr.the-row .written))) l₁₆ 0) ∷ ‵ (fdies (tyRef erased mut (pointee (Pr.the-row .written))) l₁₆) ∷ ‵ (froom tyUnit l₁₅ 0) ∷ ‵ (fdies tyUnit l₁₅) ∷ ‵ (froom (sliceTy (tyRef erased imm (pointee (Pr.the-row .written)))) l₁₄ 0) ∷ ‵ (fdies (sliceTy (tyRef erased imm (pointee (Pr.the-row .written)))) l₁₄) ∷ ‵ (froom (tyRef erased imm (pointee (Pr.the-row .written))) l₁₃ 0) ∷ ‵ (fdies (tyRef erased imm (pointee (Pr.the-row .written))) l₁₃) ∷ ‵ (froom Ms′.mir l₁₂ 0) ∷ ‵ (fdies Ms′.mir l₁₂) ∷ ‵ (froom Pr′.mir l₁₁ 0) ∷ ‵ (fdies Pr′.mir l₁₁) ∷ ‵ (fat fullShare Dn′.mir l₁₀ 0 (valDn f)) ∷ ‵ (fdies Dn′.mir l₁₀) ∷ ‵ (fat fullShare Pr′.mir l₉ 0 (valPr q)) ∷ ‵ (fdies Pr′.mir l₉) ∷ ‵ (fat fullShare word l₈ 0 (vint w64 pi)) ∷ ‵ (fdies word l₈) ∷ ‵ (fat fullShare word l₇ 0 (vint w64 i)) ∷ ‵ (fdies word l₇) ∷ ‵ (fat fullShare Ms′.mir l₆ 0 (valMs m)) ∷ ‵ (fdies Ms′.mir l₆) ∷ ‵ (fat fullShare word l₅ 0 (vint w64 k)) ∷ ‵ (fdies word l₅) ∷ ‵ (fat fullShare Ev′.mir l₄ 0 (valEv e)) ∷ ‵ (fdies Ev′.mir l₄) ∷ ‵ (fat fullShare (sliceTy (tyRef (named 1) mut (pointee (Ms.the-row .written)))) l₃ 0 s₁) ∷ ‵ (fdies (sliceTy (tyRef (named 1) mut (pointee (Ms.the-row .written)))) l₃) ∷ ‵ (fat fullShare (sliceTy (tyRef (named 0) mut (pointee (Pr.the-row .written)))) l₂ 0 s₀) ∷ ‵ (fdies (sliceTy (tyRef (named 0) mut (pointee (Pr.the-row .written)))) l₂) ∷ ‵ (fat fullShare Sz′.mir l₁ 0 (valSz z)) ∷ ‵ (fdies Sz′.mir l₁) ∷ ‵ (froom An′.mir l₀ 0) ∷ ‵ (fdies An′.mir l₀) ∷ []) (runs C Λ En pieces.t-7 (atRet En Post))
+      part-3 : (g7 : Is u64 i (uint-vals w64 i)) → (g8 : Is Pi.the-row pid (valsPi pid)) → (g9 : Is Pr.the-row q (valsPr q)) → (g10 : Is Dn.the-row f (valsDn f)) → Sq W (‵ (Slice Pr.the-row κ₀ γ₀ b₀ o₀ n₀ ps) ∷ ‵ (flft κ₀ q₀) ∷ ‵ (Slice Ms.the-row κ₁ γ₁ b₁ o₁ n₁ t) ∷ ‵ (flft κ₁ q₁)
+          ∷ ‵ (froom (sliceTy (tyRef erased mut (pointee (Ms.the-row .written)))) l₁₉ 0) ∷ ‵ (fdies (sliceTy (tyRef erased mut (pointee (Ms.the-row .written)))) l₁₉) ∷ ‵ (froom (tyRef erased mut (pointee (Ms.the-row .written))) l₁₈ 0) ∷ ‵ (fdies (tyRef erased mut (pointee (Ms.the-row .written))) l₁₈) ∷ ‵ (froom (sliceTy (tyRef erased mut (pointee (Pr.the-row .written)))) l₁₇ 0) ∷ ‵ (fdies (sliceTy (tyRef erased mut (pointee (Pr.the-row .written)))) l₁₇) ∷ ‵ (froom (tyRef erased mut (pointee (Pr.the-row .written))) l₁₆ 0) ∷ ‵ (fdies (tyRef erased mut (pointee (Pr.the-row .written))) l₁₆) ∷ ‵ (froom tyUnit l₁₅ 0) ∷ ‵ (fdies tyUnit l₁₅) ∷ ‵ (froom (sliceTy (tyRef erased imm (pointee (Pr.the-row .written)))) l₁₄ 0) ∷ ‵ (fdies (sliceTy (tyRef erased imm (pointee (Pr.the-row .written)))) l₁₄) ∷ ‵ (froom (tyRef erased imm (pointee (Pr.the-row .written))) l₁₃ 0) ∷ ‵ (fdies (tyRef erased imm (pointee (Pr.the-row .written))) l₁₃) ∷ ‵ (froom Ms′.mir l₁₂ 0) ∷ ‵ (fdies Ms′.mir l₁₂) ∷ ‵ (froom Pr′.mir l₁₁ 0) ∷ ‵ (fdies Pr′.mir l₁₁) ∷ ‵ (fat fullShare Dn′.mir l₁₀ 0 (valDn f)) ∷ ‵ (fdies Dn′.mir l₁₀) ∷ ‵ (fat fullShare Pr′.mir l₉ 0 (valPr q)) ∷ ‵ (fdies Pr′.mir l₉) ∷ ‵ (fat fullShare Pi′.mir l₈ 0 (valPi pid)) ∷ ‵ (fdies Pi′.mir l₈) ∷ ‵ (fat fullShare word l₇ 0 (vint w64 i)) ∷ ‵ (fdies word l₇) ∷ ‵ (fat fullShare Ms′.mir l₆ 0 (valMs m)) ∷ ‵ (fdies Ms′.mir l₆) ∷ ‵ (fat fullShare word l₅ 0 (vint w64 k)) ∷ ‵ (fdies word l₅) ∷ ‵ (fat fullShare Ev′.mir l₄ 0 (valEv e)) ∷ ‵ (fdies Ev′.mir l₄) ∷ ‵ (fat fullShare (sliceTy (tyRef (named 1) mut (pointee (Ms.the-row .written)))) l₃ 0 s₁) ∷ ‵ (fdies (sliceTy (tyRef (named 1) mut (pointee (Ms.the-row .written)))) l₃) ∷ ‵ (fat fullShare (sliceTy (tyRef (named 0) mut (pointee (Pr.the-row .written)))) l₂ 0 s₀) ∷ ‵ (fdies (sliceTy (tyRef (named 0) mut (pointee (Pr.the-row .written)))) l₂) ∷ ‵ (fat fullShare Sz′.mir l₁ 0 (valSz z)) ∷ ‵ (fdies Sz′.mir l₁) ∷ ‵ (froom An′.mir l₀ 0) ∷ ‵ (fdies An′.mir l₀) ∷ []) (runs C Λ En pieces.t-7 (atRet En Post))
       part-3 g7 g8 g9 g10 =
           calls-value ! fm (proposer-in.signature .params) Pr.the-row (proposer-in.ended .kept) (proposer-in.clauses 𝓤 H A mem run) known-proposer-in (valsDn, tt) (makesDn, tt) valPr (LL.tells Pr.the-type Pr′.the-laws)
           (f, tt) (g10, tt) tt (id⊢ 𝓤 (emp 𝓤)) (f .change .proposer) (λ r e′. id⊢ 𝓤 (fact 𝓤 (r ≡ (f .change .proposer)))) (and-then ! (reads ! (from ! (stop !)) (look ! 23 refl)) (no-more !)) (λ g11.
           land ! (from ! (stop !)) (init ! 20 refl (typedPr (f .change .proposer) g11)) $
           assigns ! (addr ! (from ! (fld ! refl (hop ! (look-in ! 38 (sub ! 0 refl (whole !))) (stop !))))) (from ! (stop !)) (init ! 10 refl (tt, tt)) $
           assigns ! (agg ! (and-then ! (reads ! (from ! (stop !)) (look ! 10 refl)) (and-then ! (reads ! (from ! (fld ! refl (stop !))) (look-in ! 38 (sub ! 1 refl (whole !)))) (no-more !)))) (from ! (stop !)) (init ! 8 refl (tt, (tt, (record { fits = room₀ .0 }, tt)))) $
-          calls-lent ! fm Pr.the-row (plain (λ _. usize) ∷ plain (λ _. Pr.the-row) ∷ []) Nothing (yes, (yes, tt)) (λ _. vunit) nothing-tells b₀ o₀ n₀ ps refl (λ ν. (uint-vals w64, (valsPr, tt))) (λ ν. (uint-makes 𝓤 H A W w64, (makesPr, tt))) (λ ν. (pi, ((f .change .proposer), tt))) (λ ν. (g8, (g11, tt)))
+          calls-lent ! fm Pr.the-row (plain (λ _. Pi.the-row) ∷ plain (λ _. Pr.the-row) ∷ []) Nothing (yes, (yes, tt)) (λ _. vunit) nothing-tells b₀ o₀ n₀ ps refl (λ ν. (valsPi, (valsPr, tt))) (λ ν. (makesPi, (makesPr, tt))) (λ ν. (pid, ((f .change .proposer), tt))) (λ ν. (g8, (g11, tt)))
           (store-proposer.clauses 𝓤 H A mem run) known-store-proposer room₀ tt ps′ (λ ν δ. tt) (λ ν δ. factI 𝓤 _ (emp 𝓤) in-p) (λ ν δ r ws. fact-mono 𝓤 (ws .0 ≡ ps′) ((r ≡ tt) × (ws .0 ≡ ps′)) (λ e′. (refl, e′))) (λ ν δ. (and-then ! (reads ! (from ! (stop !)) (look ! 8 refl)) (and-then ! (reads ! (from ! (stop !)) (look ! 26 refl)) (and-then ! (reads ! (from ! (stop !)) (look ! 20 refl)) (no-more !))))) (λ _ e17.
           land ! (from ! (stop !)) (init ! 12 refl (tt, tt)) $
           forget ! 12 refl $
@@ -334,12 +352,12 @@ module _ {M : Type 1} (𝓤 : URA M) (H : Heap 𝓤) (A : Atoms 𝓤) (W : Given
           forget ! 8 refl $
           part-4 g7 g8 g9 g10 g11 e17))
 
-      part-2 : (g7 : Is u64 i (uint-vals w64 i)) → (g8 : Is usize pi (uint-vals w64 pi)) → Sq W (‵ (Slice Pr.the-row κ₀ γ₀ b₀ o₀ n₀ ps) ∷ ‵ (flft κ₀ q₀) ∷ ‵ (Slice Ms.the-row κ₁ γ₁ b₁ o₁ n₁ t) ∷ ‵ (flft κ₁ q₁)
-          ∷ ‵ (froom (sliceTy (tyRef erased mut (pointee (Ms.the-row .written)))) l₁₉ 0) ∷ ‵ (fdies (sliceTy (tyRef erased mut (pointee (Ms.the-row .written)))) l₁₉) ∷ ‵ (froom (tyRef erased mut (pointee (Ms.the-row .written))) l₁₈ 0) ∷ ‵ (fdies (tyRef erased mut (pointee (Ms.the-row .written))) l₁₈) ∷ ‵ (froom (sliceTy (tyRef erased mut (pointee (Pr.the-row .written)))) l₁₇ 0) ∷ ‵ (fdies (sliceTy (tyRef erased mut (pointee (Pr.the-row .written)))) l₁₇) ∷ ‵ (froom (tyRef erased mut (pointee (Pr.the-row .written))) l₁₆ 0) ∷ ‵ (fdies (tyRef erased mut (pointee (Pr.the-row .written))) l₁₆) ∷ ‵ (froom tyUnit l₁₅ 0) ∷ ‵ (fdies tyUnit l₁₅) ∷ ‵ (froom (sliceTy (tyRef erased imm (pointee (Pr.the-row .written)))) l₁₄ 0) ∷ ‵ (fdies (sliceTy (tyRef erased imm (pointee (Pr.the-row .written)))) l₁₄) ∷ ‵ (froom (tyRef erased imm (pointee (Pr.the-row .written))) l₁₃ 0) ∷ ‵ (fdies (tyRef erased imm (pointee (Pr.the-row .written))) l₁₃) ∷ ‵ (froom Ms′.mir l₁₂ 0) ∷ ‵ (fdies Ms′.mir l₁₂) ∷ ‵ (froom Pr′.mir l₁₁ 0) ∷ ‵ (fdies Pr′.mir l₁₁) ∷ ‵ (froom Dn′.mir l₁₀ 0) ∷ ‵ (fdies Dn′.mir l₁₀) ∷ ‵ (froom Pr′.mir l₉ 0) ∷ ‵ (fdies Pr′.mir l₉) ∷ ‵ (fat fullShare word l₈ 0 (vint w64 pi)) ∷ ‵ (fdies word l₈) ∷ ‵ (fat fullShare word l₇ 0 (vint w64 i)) ∷ ‵ (fdies word l₇) ∷ ‵ (fat fullShare Ms′.mir l₆ 0 (valMs m)) ∷ ‵ (fdies Ms′.mir l₆) ∷ ‵ (fat fullShare word l₅ 0 (vint w64 k)) ∷ ‵ (fdies word l₅) ∷ ‵ (fat fullShare Ev′.mir l₄ 0 (valEv e)) ∷ ‵ (fdies Ev′.mir l₄) ∷ ‵ (fat fullShare (sliceTy (tyRef (named 1) mut (pointee (Ms.the-row .written)))) l₃ 0 s₁) ∷ ‵ (fdies (sliceTy (tyRef (named 1) mut (pointee (Ms.the-row .written)))) l₃) ∷ ‵ (fat fullShare (sliceTy (tyRef (named 0) mut (pointee (Pr.the-row .written)))) l₂ 0 s₀) ∷ ‵ (fdies (sliceTy (tyRef (named 0) mut (pointee (Pr.the-row .written)))) l₂) ∷ ‵ (fat fullShare Sz′.mir l₁ 0 (valSz z)) ∷ ‵ (fdies Sz′.mir l₁) ∷ ‵ (froom An′.mir l₀ 0) ∷ ‵ (fdies An′.mir l₀) ∷ []) (runs C Λ En pieces.t-3 (atRet En Post))
+      part-2 : (g7 : Is u64 i (uint-vals w64 i)) → (g8 : Is Pi.the-row pid (valsPi pid)) → Sq W (‵ (Slice Pr.the-row κ₀ γ₀ b₀ o₀ n₀ ps) ∷ ‵ (flft κ₀ q₀) ∷ ‵ (Slice Ms.the-row κ₁ γ₁ b₁ o₁ n₁ t) ∷ ‵ (flft κ₁ q₁)
+          ∷ ‵ (froom (sliceTy (tyRef erased mut (pointee (Ms.the-row .written)))) l₁₉ 0) ∷ ‵ (fdies (sliceTy (tyRef erased mut (pointee (Ms.the-row .written)))) l₁₉) ∷ ‵ (froom (tyRef erased mut (pointee (Ms.the-row .written))) l₁₈ 0) ∷ ‵ (fdies (tyRef erased mut (pointee (Ms.the-row .written))) l₁₈) ∷ ‵ (froom (sliceTy (tyRef erased mut (pointee (Pr.the-row .written)))) l₁₇ 0) ∷ ‵ (fdies (sliceTy (tyRef erased mut (pointee (Pr.the-row .written)))) l₁₇) ∷ ‵ (froom (tyRef erased mut (pointee (Pr.the-row .written))) l₁₆ 0) ∷ ‵ (fdies (tyRef erased mut (pointee (Pr.the-row .written))) l₁₆) ∷ ‵ (froom tyUnit l₁₅ 0) ∷ ‵ (fdies tyUnit l₁₅) ∷ ‵ (froom (sliceTy (tyRef erased imm (pointee (Pr.the-row .written)))) l₁₄ 0) ∷ ‵ (fdies (sliceTy (tyRef erased imm (pointee (Pr.the-row .written)))) l₁₄) ∷ ‵ (froom (tyRef erased imm (pointee (Pr.the-row .written))) l₁₃ 0) ∷ ‵ (fdies (tyRef erased imm (pointee (Pr.the-row .written))) l₁₃) ∷ ‵ (froom Ms′.mir l₁₂ 0) ∷ ‵ (fdies Ms′.mir l₁₂) ∷ ‵ (froom Pr′.mir l₁₁ 0) ∷ ‵ (fdies Pr′.mir l₁₁) ∷ ‵ (froom Dn′.mir l₁₀ 0) ∷ ‵ (fdies Dn′.mir l₁₀) ∷ ‵ (froom Pr′.mir l₉ 0) ∷ ‵ (fdies Pr′.mir l₉) ∷ ‵ (fat fullShare Pi′.mir l₈ 0 (valPi pid)) ∷ ‵ (fdies Pi′.mir l₈) ∷ ‵ (fat fullShare word l₇ 0 (vint w64 i)) ∷ ‵ (fdies word l₇) ∷ ‵ (fat fullShare Ms′.mir l₆ 0 (valMs m)) ∷ ‵ (fdies Ms′.mir l₆) ∷ ‵ (fat fullShare word l₅ 0 (vint w64 k)) ∷ ‵ (fdies word l₅) ∷ ‵ (fat fullShare Ev′.mir l₄ 0 (valEv e)) ∷ ‵ (fdies Ev′.mir l₄) ∷ ‵ (fat fullShare (sliceTy (tyRef (named 1) mut (pointee (Ms.the-row .written)))) l₃ 0 s₁) ∷ ‵ (fdies (sliceTy (tyRef (named 1) mut (pointee (Ms.the-row .written)))) l₃) ∷ ‵ (fat fullShare (sliceTy (tyRef (named 0) mut (pointee (Pr.the-row .written)))) l₂ 0 s₀) ∷ ‵ (fdies (sliceTy (tyRef (named 0) mut (pointee (Pr.the-row .written)))) l₂) ∷ ‵ (fat fullShare Sz′.mir l₁ 0 (valSz z)) ∷ ‵ (fdies Sz′.mir l₁) ∷ ‵ (froom An′.mir l₀ 0) ∷ ‵ (fdies An′.mir l₀) ∷ []) (runs C Λ En pieces.t-3 (atRet En Post))
       part-2 g7 g8 =
           assigns ! (addr ! (from ! (fld ! refl (hop ! (look-in ! 38 (sub ! 0 refl (whole !))) (stop !))))) (from ! (stop !)) (init ! 16 refl (tt, tt)) $
           assigns ! (agg ! (and-then ! (reads ! (from ! (stop !)) (look ! 16 refl)) (and-then ! (reads ! (from ! (fld ! refl (stop !))) (look-in ! 38 (sub ! 1 refl (whole !)))) (no-more !)))) (from ! (stop !)) (init ! 14 refl (tt, (tt, (record { fits = room₀ .0 }, tt)))) $
-          calls-shared ! fm Pr.the-row (plain (λ _. usize) ∷ []) Pr.the-row (yes, tt) valPr (LL.tells Pr.the-type Pr′.the-laws) b₀ o₀ n₀ ps refl (λ ν. (uint-vals w64, tt)) (λ ν. (uint-makes 𝓤 H A W w64, tt)) (λ ν. (pi, tt)) (λ ν. (g8, tt))
+          calls-shared ! fm Pr.the-row (plain (λ _. Pi.the-row) ∷ []) Pr.the-row (yes, tt) valPr (LL.tells Pr.the-type Pr′.the-laws) b₀ o₀ n₀ ps refl (λ ν. (valsPi, tt)) (λ ν. (makesPi, tt)) (λ ν. (pid, tt)) (λ ν. (g8, tt))
           (load-proposer.clauses 𝓤 H A mem run) known-load-proposer q (λ ν δ. tt) (λ ν δ. factI 𝓤 _ (emp 𝓤) in-p) (λ ν δ r e′. id⊢ 𝓤 (fact 𝓤 (r ≡ q))) (λ ν δ. (and-then ! (reads ! (from ! (stop !)) (look ! 17 refl)) (and-then ! (reads ! (from ! (stop !)) (look ! 29 refl)) (no-more !)))) (λ g9.
           land ! (from ! (stop !)) (init ! 24 refl (typedPr q g9)) $
           calls-value ! fm (tell.signature .params) Dn.the-row (tell.ended .kept) (tell.clauses 𝓤 H A mem run) known-tell (valsSz, (valsEv, (valsMs, (valsPr, tt)))) (makesSz, (makesEv, (makesMs, (makesPr, tt)))) valDn (LL.tells Dn.the-type Dn′.the-laws)
@@ -350,14 +368,14 @@ module _ {M : Type 1} (𝓤 : URA M) (H : Heap 𝓤) (A : Atoms 𝓤) (W : Given
           part-3 g7 g8 g9 g10))
 
       part-1 : Sq W (‵ (Slice Pr.the-row κ₀ γ₀ b₀ o₀ n₀ ps) ∷ ‵ (flft κ₀ q₀) ∷ ‵ (Slice Ms.the-row κ₁ γ₁ b₁ o₁ n₁ t) ∷ ‵ (flft κ₁ q₁)
-          ∷ ‵ (froom (sliceTy (tyRef erased mut (pointee (Ms.the-row .written)))) l₁₉ 0) ∷ ‵ (fdies (sliceTy (tyRef erased mut (pointee (Ms.the-row .written)))) l₁₉) ∷ ‵ (froom (tyRef erased mut (pointee (Ms.the-row .written))) l₁₈ 0) ∷ ‵ (fdies (tyRef erased mut (pointee (Ms.the-row .written))) l₁₈) ∷ ‵ (froom (sliceTy (tyRef erased mut (pointee (Pr.the-row .written)))) l₁₇ 0) ∷ ‵ (fdies (sliceTy (tyRef erased mut (pointee (Pr.the-row .written)))) l₁₇) ∷ ‵ (froom (tyRef erased mut (pointee (Pr.the-row .written))) l₁₆ 0) ∷ ‵ (fdies (tyRef erased mut (pointee (Pr.the-row .written))) l₁₆) ∷ ‵ (froom tyUnit l₁₅ 0) ∷ ‵ (fdies tyUnit l₁₅) ∷ ‵ (froom (sliceTy (tyRef erased imm (pointee (Pr.the-row .written)))) l₁₄ 0) ∷ ‵ (fdies (sliceTy (tyRef erased imm (pointee (Pr.the-row .written)))) l₁₄) ∷ ‵ (froom (tyRef erased imm (pointee (Pr.the-row .written))) l₁₃ 0) ∷ ‵ (fdies (tyRef erased imm (pointee (Pr.the-row .written))) l₁₃) ∷ ‵ (froom Ms′.mir l₁₂ 0) ∷ ‵ (fdies Ms′.mir l₁₂) ∷ ‵ (froom Pr′.mir l₁₁ 0) ∷ ‵ (fdies Pr′.mir l₁₁) ∷ ‵ (froom Dn′.mir l₁₀ 0) ∷ ‵ (fdies Dn′.mir l₁₀) ∷ ‵ (froom Pr′.mir l₉ 0) ∷ ‵ (fdies Pr′.mir l₉) ∷ ‵ (froom word l₈ 0) ∷ ‵ (fdies word l₈) ∷ ‵ (froom word l₇ 0) ∷ ‵ (fdies word l₇) ∷ ‵ (fat fullShare Ms′.mir l₆ 0 (valMs m)) ∷ ‵ (fdies Ms′.mir l₆) ∷ ‵ (fat fullShare word l₅ 0 (vint w64 k)) ∷ ‵ (fdies word l₅) ∷ ‵ (fat fullShare Ev′.mir l₄ 0 (valEv e)) ∷ ‵ (fdies Ev′.mir l₄) ∷ ‵ (fat fullShare (sliceTy (tyRef (named 1) mut (pointee (Ms.the-row .written)))) l₃ 0 s₁) ∷ ‵ (fdies (sliceTy (tyRef (named 1) mut (pointee (Ms.the-row .written)))) l₃) ∷ ‵ (fat fullShare (sliceTy (tyRef (named 0) mut (pointee (Pr.the-row .written)))) l₂ 0 s₀) ∷ ‵ (fdies (sliceTy (tyRef (named 0) mut (pointee (Pr.the-row .written)))) l₂) ∷ ‵ (fat fullShare Sz′.mir l₁ 0 (valSz z)) ∷ ‵ (fdies Sz′.mir l₁) ∷ ‵ (froom An′.mir l₀ 0) ∷ ‵ (fdies An′.mir l₀) ∷ []) (runs C Λ En pieces.t-1 (atRet En Post))
+          ∷ ‵ (froom (sliceTy (tyRef erased mut (pointee (Ms.the-row .written)))) l₁₉ 0) ∷ ‵ (fdies (sliceTy (tyRef erased mut (pointee (Ms.the-row .written)))) l₁₉) ∷ ‵ (froom (tyRef erased mut (pointee (Ms.the-row .written))) l₁₈ 0) ∷ ‵ (fdies (tyRef erased mut (pointee (Ms.the-row .written))) l₁₈) ∷ ‵ (froom (sliceTy (tyRef erased mut (pointee (Pr.the-row .written)))) l₁₇ 0) ∷ ‵ (fdies (sliceTy (tyRef erased mut (pointee (Pr.the-row .written)))) l₁₇) ∷ ‵ (froom (tyRef erased mut (pointee (Pr.the-row .written))) l₁₆ 0) ∷ ‵ (fdies (tyRef erased mut (pointee (Pr.the-row .written))) l₁₆) ∷ ‵ (froom tyUnit l₁₅ 0) ∷ ‵ (fdies tyUnit l₁₅) ∷ ‵ (froom (sliceTy (tyRef erased imm (pointee (Pr.the-row .written)))) l₁₄ 0) ∷ ‵ (fdies (sliceTy (tyRef erased imm (pointee (Pr.the-row .written)))) l₁₄) ∷ ‵ (froom (tyRef erased imm (pointee (Pr.the-row .written))) l₁₃ 0) ∷ ‵ (fdies (tyRef erased imm (pointee (Pr.the-row .written))) l₁₃) ∷ ‵ (froom Ms′.mir l₁₂ 0) ∷ ‵ (fdies Ms′.mir l₁₂) ∷ ‵ (froom Pr′.mir l₁₁ 0) ∷ ‵ (fdies Pr′.mir l₁₁) ∷ ‵ (froom Dn′.mir l₁₀ 0) ∷ ‵ (fdies Dn′.mir l₁₀) ∷ ‵ (froom Pr′.mir l₉ 0) ∷ ‵ (fdies Pr′.mir l₉) ∷ ‵ (froom Pi′.mir l₈ 0) ∷ ‵ (fdies Pi′.mir l₈) ∷ ‵ (froom word l₇ 0) ∷ ‵ (fdies word l₇) ∷ ‵ (fat fullShare Ms′.mir l₆ 0 (valMs m)) ∷ ‵ (fdies Ms′.mir l₆) ∷ ‵ (fat fullShare word l₅ 0 (vint w64 k)) ∷ ‵ (fdies word l₅) ∷ ‵ (fat fullShare Ev′.mir l₄ 0 (valEv e)) ∷ ‵ (fdies Ev′.mir l₄) ∷ ‵ (fat fullShare (sliceTy (tyRef (named 1) mut (pointee (Ms.the-row .written)))) l₃ 0 s₁) ∷ ‵ (fdies (sliceTy (tyRef (named 1) mut (pointee (Ms.the-row .written)))) l₃) ∷ ‵ (fat fullShare (sliceTy (tyRef (named 0) mut (pointee (Pr.the-row .written)))) l₂ 0 s₀) ∷ ‵ (fdies (sliceTy (tyRef (named 0) mut (pointee (Pr.the-row .written)))) l₂) ∷ ‵ (fat fullShare Sz′.mir l₁ 0 (valSz z)) ∷ ‵ (fdies Sz′.mir l₁) ∷ ‵ (froom An′.mir l₀ 0) ∷ ‵ (fdies An′.mir l₀) ∷ []) (runs C Λ En pieces.t-1 (atRet En Post))
       part-1 =
           calls-value ! fm (party-of.signature .params) u64 (party-of.ended .kept) (party-of.clauses 𝓤 H A mem run) known-party-of (valsEv, (valsMs, tt)) (makesEv, (makesMs, tt)) (vint w64) (uint-tells w64)
           (e, (m, tt)) (ge, (gm, tt)) tt (id⊢ 𝓤 (emp 𝓤)) i (λ r e′. id⊢ 𝓤 (fact 𝓤 (r ≡ i))) (and-then ! (reads ! (from ! (stop !)) (look ! 35 refl)) (and-then ! (reads ! (from ! (stop !)) (look ! 31 refl)) (no-more !))) (λ g7.
           land ! (from ! (stop !)) (init ! 28 refl (tt, record { fits = g7 .1 })) $
-          calls-value ! fm (proposer-at.signature .params) usize (proposer-at.ended .kept) (proposer-at.clauses 𝓤 H A mem run) known-proposer-at (valsSz, (uint-vals w64, tt)) (makesSz, (uint-makes 𝓤 H A W w64, tt)) (vint w64) (uint-tells w64)
-          (z, (i, tt)) (gz, (g7, tt)) tt (id⊢ 𝓤 (emp 𝓤)) pi (λ r e′. id⊢ 𝓤 (fact 𝓤 (r ≡ pi))) (and-then ! (reads ! (from ! (stop !)) (look ! 41 refl)) (and-then ! (reads ! (from ! (stop !)) (look ! 29 refl)) (no-more !))) (λ g8.
-          land ! (from ! (stop !)) (init ! 26 refl (tt, record { fits = g8 .1 })) $
+          calls-value ! fm (proposer-at.signature .params) Pi.the-row (proposer-at.ended .kept) (proposer-at.clauses 𝓤 H A mem run) known-proposer-at (valsSz, (uint-vals w64, tt)) (makesSz, (uint-makes 𝓤 H A W w64, tt)) valPi (LL.tells Pi.the-type Pi′.the-laws)
+          (z, (i, tt)) (gz, (g7, tt)) tt (factI 𝓤 _ (emp 𝓤) (fit .1 .1 .0)) pid (λ r e′. id⊢ 𝓤 (fact 𝓤 (r ≡ pid))) (and-then ! (reads ! (from ! (stop !)) (look ! 41 refl)) (and-then ! (reads ! (from ! (stop !)) (look ! 29 refl)) (no-more !))) (λ g8.
+          land ! (from ! (stop !)) (init ! 26 refl (typedPi pid g8)) $
           part-2 g7 g8))
 
     walk : ent 𝓤 (onEntry 𝓤 H A this.signature (κ₀, (κ₁, tt)) (q₀, (q₁, tt)) (z, (listAt Pr.the-row b₀ o₀ ps γ₀, (listAt Ms.the-row b₁ o₁ t γ₁, (e, (k, (m, tt)))))) at) (WpFn 𝓤 H C Λ code.function (valSz z ∷ s₀ ∷ s₁ ∷ valEv e ∷ vint w64 k ∷ valMs m ∷ []) Post)

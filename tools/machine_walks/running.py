@@ -63,12 +63,11 @@ class Loop(Walk):
 
     def leave(self, line):
         """The loop is left, the line sets the result, and the function returns."""
-        full = sorted(set(self.start_values) | {self.tested, 0}, reverse=True)
+        full = set(self.start_values) | {self.tested, 0}
         longs = ['(long%s)' % path(i, len(self.stored)) for i in range(len(self.stored))]
         self.say('(λ off. exec ! C Λ En pieces.t-%d (atRet En Post) $' % (len(self.before) + 2))
         self.say(line)
-        self.say('returns ! (look ! %d refl) $ ' % self.f.place(0) + ' '.join('forget ! %d refl $' % self.f.place(k) for k in full))
-        self.say(' '.join('move ! (%d ∷ %d ∷ []) $ free1 ! $' % (self.f.place(k), self.f.place(k) + 1) for k in range(self.f.count)) + ' free0 ! $')
+        self.say('returns ! (look ! %d refl) $ ' % self.f.place(0) + self.frees(full))
         self.say('by ! (exits r (same ∙ ap (%s) (at-end k n (w .2 .0) (nltb→le k n off))) %s))' % (self.upto, ' '.join([name for name, t, first in self.kept] + longs)))
 
     # ---- the file
@@ -76,7 +75,6 @@ class Loop(Walk):
     def middle(self, known, locations, lifetimes, shares, given):
         held = ' ∷ '.join(self.f.slice_owned(s, self.f.after[s]) + ' ∷ ‵ (flft κ{0} q{0})'.format(sub(s)) for s in range(len(self.f.slices)))
         self.value = self.start_values
-        cells = ' ∷ '.join(self.item(k) for k in range(self.f.count - 1, -1, -1))
         first = len(self.before) + 1
         count = 3 + len(self.kept)
         definitions = [
@@ -98,7 +96,7 @@ class Loop(Walk):
 
       abbrev Cx : ℕ → {S} → List (Item 𝓤)
       Cx k r = {held}
-          ∷ {cells} ∷ []
+          ∷ {cells}
 
       abbrev At : X → List (Item 𝓤)
       At w = Cx (w .0) (w .1)
@@ -119,7 +117,7 @@ class Loop(Walk):
       looped = first ! $ blocks ! $ loops ! 𝓣 (Nearer n upto) (Nearer-wf n upto) At turns begins
 
 '''.format(S=self.state, long=nested(['(length %s ≡ n%s)' % (self.f.after[s], sub(s)) for s in self.stored]), facts=nested(['(k ≤ n)', 'Long r', '(r ≡ %s k)' % self.upto] + [t for name, t, at in self.kept]),
-           held=held, cells=cells, after=first + 1, first=first, lines=''.join('          ' + l.rstrip() + '\n' for l in self.lines),
+           held=held, cells=self.cells(), after=first + 1, first=first, lines=''.join('          ' + l.rstrip() + '\n' for l in self.lines),
            definitions='\n'.join('          {0} : {1}\n          {0}{2} = {3}\n'.format(*d) for d in definitions),
            begins=tupled([tupled(['refl'] * len(self.stored)), self.begins] + [at for name, t, at in self.kept])) + entry(self.f, lifetimes, shares, given, locations, self.before + ['looped ' + locations])
 

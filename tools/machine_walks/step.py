@@ -31,8 +31,7 @@ class Dispatcher(Walk):
         for i in range(len(g.slices)):
             at = a.order.index(i)
             back += [2 * at, 2 * at + 1]
-        a.say('%s (look ! %d refl) $ ' % ('returns !' if k is None else 'returns-within ! Post refl', g.place(0)) + ' '.join('forget ! %d refl $' % g.place(i) for i in range(g.count - 1, -1, -1) if i in a.value))
-        a.say(' '.join('move ! (%d ∷ %d ∷ []) $ free1 ! $' % (g.place(i), g.place(i) + 1) for i in range(g.count)) + ' free0 ! $')
+        a.say('%s (look ! %d refl) $ ' % ('returns !' if k is None else 'returns-within ! Post refl', g.place(0)) + a.frees(a.value))
         a.say('keep ! %s $ by ! (exits %s g0 %s)' % (listed(back), ends, ' '.join(a.same)) + ')' * a.closes)
         if f not in self.called:
             self.called.append(f)

@@ -215,7 +215,7 @@ class Function:
 
     def place(self, k):
         """The position of local k in the context: the last local comes first."""
-        return self.held + 2 * (self.count - 1 - k)
+        return self.held + self.count - 1 - k
 
     def slice_type(self, s):
         return '%s (named %d) κ%s %s' % ('ShrSlice' if self.shared[s] else 'MutSlice', s, sub(s), self.row(self.slices[s][1]))
@@ -261,12 +261,19 @@ class Walk:
 
     def item(self, k):
         t, x = self.f.types[k], sub(k)
-        cell = '‵ (fat fullShare %s l%s 0 %s)' % (t, x, self.value[k]) if k in self.value else '‵ (froom %s l%s 0)' % (t, x)
-        return cell + ' ∷ ‵ (fdies %s l%s)' % (t, x)
+        return '‵ (fat fullShare %s l%s 0 %s)' % (t, x, self.value[k]) if k in self.value else '‵ (froom %s l%s 0)' % (t, x)
+
+    def cells(self):
+        """The locals, and what lets them die."""
+        return ' ∷ '.join(self.item(k) for k in range(self.f.count - 1, -1, -1)) + ' ∷ Dies ∷ []'
+
+    def frees(self, filled):
+        """The locals are freed, of which these hold something."""
+        return 'frees-all ! %d %s refl refl $' % (self.f.held, listed('full _ _ _' if k in filled else 'bare _ _' for k in range(self.f.count - 1, -1, -1)))
 
     def context(self):
         slices = ' ∷ '.join(self.f.slice_owned(x, self.lists[x]) + ' ∷ ‵ (flft {κ} {q})'.format(**self.f.at(x)) for x in self.order)
-        return slices + '\n          ∷ ' + ' ∷ '.join(self.item(k) for k in range(self.f.count - 1, -1, -1)) + ' ∷ []'
+        return slices + '\n          ∷ ' + self.cells()
 
     def learnt(self):
         """What the next part is handed, as a name, a type and a proof: of each local that a call left, that its value is one of its type; of each slice that was stored to, its length."""
@@ -457,7 +464,7 @@ use contract.Monad.{Fun, fact, factI, fact-mono}
 use contract.Running.{givenOf, tables, tablesOf}
 use types.Kit.{Given, Item, ‵, _⊛_, ⋆, runs, anyQ, atRet, Sq, _$_, _∵_, !, qed, by, move, keep, split, join, fsplit, fjoin, feqI, suffices, frame, done}
 use types.Part.{agg, rep, whole, sub, look-in}
-use types.Run.{look, init, store, forget, stop, hop, fld, from, load as reads, lit, unit-lit, addr, of-opd, bin, and-then, no-more, assigns, assigns-last, land, first, blocks, returns, enter, alloc1, alloc0, params1, pass1, pass0, free1, free0, exec, Below, again, loops}
+use types.Run.{look, init, store, forget, stop, hop, fld, from, load as reads, lit, unit-lit, addr, of-opd, bin, and-then, no-more, assigns, assigns-last, land, first, blocks, returns, enter, alloc1, alloc0, params1, pass1, pass0, exec, Below, again, loops}
 use sound.WpLaws.{FmC, fmOf, WpFn-mono}
 use denote.RattleType.{owns}
 use denote.Laws.{Is, Makes}
@@ -478,7 +485,8 @@ use denote.Triple.Table.{entered, cited}
 use denote.Triple.Walked.{says, needs, Stays, stay-none, stay-none-slice, stay-slice, walkOf, goes-none, goes-none-slice, goes-slice, Walks, ends-at, walked, walk-meets}
 use denote.Exit.{yes}'''
 
-LAWS = '''use Rattle.machine.proofs.Relending.{Slice, listAt}
+LAWS = '''use Rattle.machine.proofs.Frees.{full, bare, dies-apart, frees-all}
+use Rattle.machine.proofs.Relending.{Slice, listAt}
 use Rattle.machine.proofs.CallsByValue.{calls-value}
 use Rattle.machine.proofs.CallsWithSlices.{passed, lent, handed, calls}
 use Rattle.machine.proofs.CallsLending.{calls-shared, calls-lent}
@@ -530,8 +538,7 @@ def parts(f, w):
     for k in range(len(f.slices)):
         i = w.order.index(k)
         back += [2 * i, 2 * i + 1]
-    tail = ['returns ! (look ! %d refl) $ ' % f.place(0) + ' '.join('forget ! %d refl $' % f.place(k) for k in range(f.count - 1, -1, -1) if k in w.value),
-            ' '.join('move ! (%d ∷ %d ∷ []) $ free1 ! $' % (f.place(k), f.place(k) + 1) for k in range(f.count)) + ' free0 ! $',
+    tail = ['returns ! (look ! %d refl) $ ' % f.place(0) + w.frees(w.value),
             'keep ! %s $ by ! (exits %s)' % (listed(back), ' '.join([x for x in [w.known[0][2]] if x] + [w.same[k] for k in range(len(f.slices)) if not f.shared[k]]))]
     out = ''
     for j in range(len(w.parts) - 1, 0, -1):
@@ -552,8 +559,8 @@ def entry(f, lifetimes, shares, given, locations, then):
     n, slices = f.count, [k for k, t, x in f.slices]
     args = ' ∷ '.join(in_order(f, lambda j, t, x: f.value_of(t, x).strip('()'), lambda j, t, x, k: 's' + sub(k))) + ' ∷ []'
     rows = ' ∷ '.join(in_order(f, lambda j, t, x: f.row(t), lambda j, t, x, k: f.slice_type(k))) + ' ∷ []'
-    passed = in_order(f, lambda j, t, x: 'pass1 ! (init ! %d refl %s) $' % (f.place(j + 1) - f.held, f.typed(t, x, 'g' + x)),
-                      lambda j, t, x, k: 'pass1 ! (init ! %d refl (tt, (tt, (record { fits = room%s .0 }, tt)))) $' % (f.place(j + 1) - f.held, sub(k)))
+    passed = in_order(f, lambda j, t, x: 'pass1 ! (init ! %d refl %s) $' % (n - 1 - j, f.typed(t, x, 'g' + x)),
+                      lambda j, t, x, k: 'pass1 ! (init ! %d refl (tt, (tt, (record { fits = room%s .0 }, tt)))) $' % (n - 1 - j, sub(k)))
     # what stands before the locals, as it comes apart: what the parameters own, up to the last slice; then the tokens
     there = []
     for k in range(1, slices[-1] + 1):
@@ -567,15 +574,15 @@ def entry(f, lifetimes, shares, given, locations, then):
     return '''    walk : ent 𝓤 (onEntry 𝓤 H A this.signature {lifetimes} {shares} {given} at) (WpFn 𝓤 H C Λ code.function ({args}) Post)
     walk =
         qed W (({tokens} ⊛ ‵ ftrue) ∷ ‵ (owns ({rows}) {given} at) ∷ []) ∵ enter ! C Λ code.function ({args}) _ $
-        {allocs}alloc0 ! $ params1 ! $
+        {allocs}alloc0 ! $ dies-apart ! {count} $ params1 ! $
         {passed} pass0 ! $
         move ! ({all_owned} ∷ []) $ {owned} $
         move ! ({all_tokens} ∷ []) $ {split} $
         keep ! {kept} $ {then}{closing}
 '''.format(lifetimes=lifetimes, shares=shares, given=given, args=args, rows=rows, tokens=' ⊛ '.join('‵ (flft κ{0} q{0})'.format(sub(k)) for k in range(len(slices))),
-           allocs=''.join('alloc1 ! (λ l%s. ' % sub(k) for k in range(n)), passed=' '.join(passed), all_owned=2 * n + 1, all_tokens=2 * n + owns,
+           allocs=''.join('alloc1 ! (λ l%s. ' % sub(k) for k in range(n)), count=n, passed=' '.join(passed), all_owned=n + 2, all_tokens=n + 1 + owns,
            owned=' $ move ! (1 ∷ []) $ '.join(['fsplit !'] * slices[-1]), split=' $ move ! (1 ∷ []) $ '.join(['split !'] * len(slices)),
-           kept=listed(kept + list(range(len(there), len(there) + 2 * n))), then='\n        '.join(then), closing=')' * n)
+           kept=listed(kept + list(range(len(there) + 1, len(there) + 1 + n)) + [len(there)]), then='\n        '.join(then), closing=')' * n)
 
 
 def proof(f, w):
@@ -638,7 +645,10 @@ stayed = %s
       abbrev En : Env 𝓤 H
       En = {env} ∷ []
 
-'''.format(known=known, locations=locations, env=' ∷ '.join('(%s, l%s)' % (f.types[k], sub(k)) for k in range(f.count)))
+      abbrev Dies : Item 𝓤
+      Dies = {dies} ⊛ ‵ ftrue
+
+'''.format(known=known, locations=locations, dies=' ⊛ '.join('‵ (fdies %s l%s)' % (f.types[k], sub(k)) for k in range(f.count - 1, -1, -1)), env=' ∷ '.join('(%s, l%s)' % (f.types[k], sub(k)) for k in range(f.count)))
     out += w.middle(known, locations, lifetimes, shares, given)
 
     taken = ' '.join('(κs{p} .0) (qs{p} .0) ({a} .ptr .0) ({a} .ptr .1) ({a} .name)'.format(p=' .1' * k, a=at_arg(f.slices[k][0] - 1)) for k in count)

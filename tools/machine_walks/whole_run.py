@@ -36,7 +36,7 @@ class WalkOwn(Walk):
         if k not in [local for local, t, n in self.f.own] or self.f.own_no(k) not in self.order:
             return Walk.item(self, k)
         at = self.f.at(self.f.own_no(k))
-        return '‵ (flent {κ} (Held {t} {n} {b} {o} {γ})) ∷ ‵ (fdies {τ} {b})'.format(t=self.f.row(self.f.element(self.f.own_no(k))), τ=self.f.types[k], **at)
+        return '‵ (flent {κ} (Held {t} {n} {b} {o} {γ}))'.format(t=self.f.row(self.f.element(self.f.own_no(k))), **at)
 
     def learnt(self):
         made = [(x + sub(s), t, x + sub(s)) for s in sorted(self.order) if s >= len(self.f.slices) for x, t in (('ν', 'ℕ'), ('γ', 'GName'))]

@@ -1,3 +1,4 @@
+pub mod Frees
 pub mod Relending
 pub mod CallsByValue
 pub mod CallsWithSlices

@@ -17,9 +17,9 @@ use prog.Wp.{Heap, Env, Calls, Loops, WpFn, Tables}
 use ghost.Atoms.{Atoms}
 use contract.Monad.{Fun, fact, factI}
 use contract.Running.{givenOf, tables, tablesOf}
-use types.Kit.{Given, ‵, _⊛_, ⋆, runs, atRet, Sq, _$_, _∵_, !, qed, by, move, keep, split, join, fsplit, fjoin, suffices, frame, done}
+use types.Kit.{Given, Item, ‵, _⊛_, ⋆, runs, atRet, Sq, _$_, _∵_, !, qed, by, move, keep, split, join, fsplit, fjoin, suffices, frame, done}
 use types.Part.{agg, whole, sub, look-in}
-use types.Run.{look, init, forget, stop, hop, fld, from, load as reads, addr, of-opd, and-then, no-more, assigns, land, returns, enter, alloc1, alloc0, params1, pass1, pass0, free1, free0}
+use types.Run.{look, init, forget, stop, hop, fld, from, load as reads, addr, of-opd, and-then, no-more, assigns, land, returns, enter, alloc1, alloc0, params1, pass1, pass0}
 use sound.WpLaws.{FmC, fmOf, WpFn-mono}
 use denote.RattleType.{owns}
 use denote.Laws.{Is, Makes}
@@ -44,6 +44,7 @@ use Rattle.model.specs.Step.{step}
 use Rattle.machine.specs.Stepping.{Left}
 use Rattle.machine.specs.Running.{timesOf, Repeats}
 use Rattle.machine.specs.Calls.{lent as lent-as, lengthsAre, soundOf, turnsOf}
+use Rattle.machine.proofs.Frees.{full, bare, dies-apart, frees-all}
 use Rattle.machine.proofs.Relending.{Slice, listAt}
 use Rattle.machine.proofs.CallsByValue.{calls-value}
 use Rattle.machine.proofs.CallsWithSlices.{passed, lent, calls}
@@ -260,17 +261,20 @@ module _ {M : Type 1} (𝓤 : URA M) (H : Heap 𝓤) (A : Atoms 𝓤) (W : Given
       abbrev En : Env 𝓤 H
       En = (An′.mir, l₀) ∷ (Sz′.mir, l₁) ∷ ((sliceTy (tyRef (named 0) mut (pointee (Pr.the-row .written)))), l₂) ∷ ((sliceTy (tyRef (named 1) mut (pointee (Ac.the-row .written)))), l₃) ∷ ((sliceTy (tyRef (named 2) mut (pointee (Le.the-row .written)))), l₄) ∷ ((sliceTy (tyRef (named 3) mut (pointee (Ms.the-row .written)))), l₅) ∷ (Ev′.mir, l₆) ∷ (tyBool, l₇) ∷ (tyBool, l₈) ∷ (tyBool, l₉) ∷ (tyBool, l₁₀) ∷ (tyBool, l₁₁) ∷ (byte, l₁₂) ∷ (byte, l₁₃) ∷ (word, l₁₄) ∷ (word, l₁₅) ∷ (word, l₁₆) ∷ (word, l₁₇) ∷ ((tyRef erased imm (pointee (Pr.the-row .written))), l₁₈) ∷ ((sliceTy (tyRef erased imm (pointee (Pr.the-row .written)))), l₁₉) ∷ ((tyRef erased imm (pointee (Ac.the-row .written))), l₂₀) ∷ ((sliceTy (tyRef erased imm (pointee (Ac.the-row .written)))), l₂₁) ∷ ((tyRef erased imm (pointee (Le.the-row .written))), l₂₂) ∷ ((sliceTy (tyRef erased imm (pointee (Le.the-row .written)))), l₂₃) ∷ ((tyRef erased imm (pointee (Ms.the-row .written))), l₂₄) ∷ ((sliceTy (tyRef erased imm (pointee (Ms.the-row .written)))), l₂₅) ∷ ((tyRef erased mut (pointee (Pr.the-row .written))), l₂₆) ∷ ((sliceTy (tyRef erased mut (pointee (Pr.the-row .written)))), l₂₇) ∷ ((tyRef erased mut (pointee (Ac.the-row .written))), l₂₈) ∷ ((sliceTy (tyRef erased mut (pointee (Ac.the-row .written)))), l₂₉) ∷ ((tyRef erased mut (pointee (Le.the-row .written))), l₃₀) ∷ ((sliceTy (tyRef erased mut (pointee (Le.the-row .written)))), l₃₁) ∷ ((tyRef erased mut (pointee (Ms.the-row .written))), l₃₂) ∷ ((sliceTy (tyRef erased mut (pointee (Ms.the-row .written)))), l₃₃) ∷ []
 
+      abbrev Dies : Item 𝓤
+      Dies = ‵ (fdies (sliceTy (tyRef erased mut (pointee (Ms.the-row .written)))) l₃₃) ⊛ ‵ (fdies (tyRef erased mut (pointee (Ms.the-row .written))) l₃₂) ⊛ ‵ (fdies (sliceTy (tyRef erased mut (pointee (Le.the-row .written)))) l₃₁) ⊛ ‵ (fdies (tyRef erased mut (pointee (Le.the-row .written))) l₃₀) ⊛ ‵ (fdies (sliceTy (tyRef erased mut (pointee (Ac.the-row .written)))) l₂₉) ⊛ ‵ (fdies (tyRef erased mut (pointee (Ac.the-row .written))) l₂₈) ⊛ ‵ (fdies (sliceTy (tyRef erased mut (pointee (Pr.the-row .written)))) l₂₇) ⊛ ‵ (fdies (tyRef erased mut (pointee (Pr.the-row .written))) l₂₆) ⊛ ‵ (fdies (sliceTy (tyRef erased imm (pointee (Ms.the-row .written)))) l₂₅) ⊛ ‵ (fdies (tyRef erased imm (pointee (Ms.the-row .written))) l₂₄) ⊛ ‵ (fdies (sliceTy (tyRef erased imm (pointee (Le.the-row .written)))) l₂₃) ⊛ ‵ (fdies (tyRef erased imm (pointee (Le.the-row .written))) l₂₂) ⊛ ‵ (fdies (sliceTy (tyRef erased imm (pointee (Ac.the-row .written)))) l₂₁) ⊛ ‵ (fdies (tyRef erased imm (pointee (Ac.the-row .written))) l₂₀) ⊛ ‵ (fdies (sliceTy (tyRef erased imm (pointee (Pr.the-row .written)))) l₁₉) ⊛ ‵ (fdies (tyRef erased imm (pointee (Pr.the-row .written))) l₁₈) ⊛ ‵ (fdies word l₁₇) ⊛ ‵ (fdies word l₁₆) ⊛ ‵ (fdies word l₁₅) ⊛ ‵ (fdies word l₁₄) ⊛ ‵ (fdies byte l₁₃) ⊛ ‵ (fdies byte l₁₂) ⊛ ‵ (fdies tyBool l₁₁) ⊛ ‵ (fdies tyBool l₁₀) ⊛ ‵ (fdies tyBool l₉) ⊛ ‵ (fdies tyBool l₈) ⊛ ‵ (fdies tyBool l₇) ⊛ ‵ (fdies Ev′.mir l₆) ⊛ ‵ (fdies (sliceTy (tyRef (named 3) mut (pointee (Ms.the-row .written)))) l₅) ⊛ ‵ (fdies (sliceTy (tyRef (named 2) mut (pointee (Le.the-row .written)))) l₄) ⊛ ‵ (fdies (sliceTy (tyRef (named 1) mut (pointee (Ac.the-row .written)))) l₃) ⊛ ‵ (fdies (sliceTy (tyRef (named 0) mut (pointee (Pr.the-row .written)))) l₂) ⊛ ‵ (fdies Sz′.mir l₁) ⊛ ‵ (fdies An′.mir l₀) ⊛ ‵ ftrue
+
       part-5 : (g7 : Is bool all-sized (bool-vals all-sized)) → (g8 : Is bool p (bool-vals p)) → (g9 : Is bool a (bool-vals a)) → (g10 : Is bool l (bool-vals l)) → (g11 : Is bool m (bool-vals m)) → (g12 : Is u8 k (uint-vals w8 k)) → (g13 : Is u8 n (uint-vals w8 n)) → Sq W (‵ (Slice Ms.the-row κ₃ γ₃ b₃ o₃ n₃ t) ∷ ‵ (flft κ₃ q₃) ∷ ‵ (Slice Le.the-row κ₂ γ₂ b₂ o₂ n₂ ls) ∷ ‵ (flft κ₂ q₂) ∷ ‵ (Slice Ac.the-row κ₁ γ₁ b₁ o₁ n₁ acs) ∷ ‵ (flft κ₁ q₁) ∷ ‵ (Slice Pr.the-row κ₀ γ₀ b₀ o₀ n₀ ps) ∷ ‵ (flft κ₀ q₀)
-          ∷ ‵ (froom (sliceTy (tyRef erased mut (pointee (Ms.the-row .written)))) l₃₃ 0) ∷ ‵ (fdies (sliceTy (tyRef erased mut (pointee (Ms.the-row .written)))) l₃₃) ∷ ‵ (froom (tyRef erased mut (pointee (Ms.the-row .written))) l₃₂ 0) ∷ ‵ (fdies (tyRef erased mut (pointee (Ms.the-row .written))) l₃₂) ∷ ‵ (froom (sliceTy (tyRef erased mut (pointee (Le.the-row .written)))) l₃₁ 0) ∷ ‵ (fdies (sliceTy (tyRef erased mut (pointee (Le.the-row .written)))) l₃₁) ∷ ‵ (froom (tyRef erased mut (pointee (Le.the-row .written))) l₃₀ 0) ∷ ‵ (fdies (tyRef erased mut (pointee (Le.the-row .written))) l₃₀) ∷ ‵ (froom (sliceTy (tyRef erased mut (pointee (Ac.the-row .written)))) l₂₉ 0) ∷ ‵ (fdies (sliceTy (tyRef erased mut (pointee (Ac.the-row .written)))) l₂₉) ∷ ‵ (froom (tyRef erased mut (pointee (Ac.the-row .written))) l₂₈ 0) ∷ ‵ (fdies (tyRef erased mut (pointee (Ac.the-row .written))) l₂₈) ∷ ‵ (froom (sliceTy (tyRef erased mut (pointee (Pr.the-row .written)))) l₂₇ 0) ∷ ‵ (fdies (sliceTy (tyRef erased mut (pointee (Pr.the-row .written)))) l₂₇) ∷ ‵ (froom (tyRef erased mut (pointee (Pr.the-row .written))) l₂₆ 0) ∷ ‵ (fdies (tyRef erased mut (pointee (Pr.the-row .written))) l₂₆) ∷ ‵ (froom (sliceTy (tyRef erased imm (pointee (Ms.the-row .written)))) l₂₅ 0) ∷ ‵ (fdies (sliceTy (tyRef erased imm (pointee (Ms.the-row .written)))) l₂₅) ∷ ‵ (froom (tyRef erased imm (pointee (Ms.the-row .written))) l₂₄ 0) ∷ ‵ (fdies (tyRef erased imm (pointee (Ms.the-row .written))) l₂₄) ∷ ‵ (froom (sliceTy (tyRef erased imm (pointee (Le.the-row .written)))) l₂₃ 0) ∷ ‵ (fdies (sliceTy (tyRef erased imm (pointee (Le.the-row .written)))) l₂₃) ∷ ‵ (froom (tyRef erased imm (pointee (Le.the-row .written))) l₂₂ 0) ∷ ‵ (fdies (tyRef erased imm (pointee (Le.the-row .written))) l₂₂) ∷ ‵ (froom (sliceTy (tyRef erased imm (pointee (Ac.the-row .written)))) l₂₁ 0) ∷ ‵ (fdies (sliceTy (tyRef erased imm (pointee (Ac.the-row .written)))) l₂₁) ∷ ‵ (froom (tyRef erased imm (pointee (Ac.the-row .written))) l₂₀ 0) ∷ ‵ (fdies (tyRef erased imm (pointee (Ac.the-row .written))) l₂₀) ∷ ‵ (froom (sliceTy (tyRef erased imm (pointee (Pr.the-row .written)))) l₁₉ 0) ∷ ‵ (fdies (sliceTy (tyRef erased imm (pointee (Pr.the-row .written)))) l₁₉) ∷ ‵ (froom (tyRef erased imm (pointee (Pr.the-row .written))) l₁₈ 0) ∷ ‵ (fdies (tyRef erased imm (pointee (Pr.the-row .written))) l₁₈) ∷ ‵ (froom word l₁₇ 0) ∷ ‵ (fdies word l₁₇) ∷ ‵ (froom word l₁₆ 0) ∷ ‵ (fdies word l₁₆) ∷ ‵ (froom word l₁₅ 0) ∷ ‵ (fdies word l₁₅) ∷ ‵ (froom word l₁₄ 0) ∷ ‵ (fdies word l₁₄) ∷ ‵ (fat fullShare byte l₁₃ 0 (vint w8 n)) ∷ ‵ (fdies byte l₁₃) ∷ ‵ (fat fullShare byte l₁₂ 0 (vint w8 k)) ∷ ‵ (fdies byte l₁₂) ∷ ‵ (fat fullShare tyBool l₁₁ 0 (vbool m)) ∷ ‵ (fdies tyBool l₁₁) ∷ ‵ (fat fullShare tyBool l₁₀ 0 (vbool l)) ∷ ‵ (fdies tyBool l₁₀) ∷ ‵ (fat fullShare tyBool l₉ 0 (vbool a)) ∷ ‵ (fdies tyBool l₉) ∷ ‵ (fat fullShare tyBool l₈ 0 (vbool p)) ∷ ‵ (fdies tyBool l₈) ∷ ‵ (fat fullShare tyBool l₇ 0 (vbool all-sized)) ∷ ‵ (fdies tyBool l₇) ∷ ‵ (fat fullShare Ev′.mir l₆ 0 (valEv e)) ∷ ‵ (fdies Ev′.mir l₆) ∷ ‵ (fat fullShare (sliceTy (tyRef (named 3) mut (pointee (Ms.the-row .written)))) l₅ 0 s₃) ∷ ‵ (fdies (sliceTy (tyRef (named 3) mut (pointee (Ms.the-row .written)))) l₅) ∷ ‵ (fat fullShare (sliceTy (tyRef (named 2) mut (pointee (Le.the-row .written)))) l₄ 0 s₂) ∷ ‵ (fdies (sliceTy (tyRef (named 2) mut (pointee (Le.the-row .written)))) l₄) ∷ ‵ (fat fullShare (sliceTy (tyRef (named 1) mut (pointee (Ac.the-row .written)))) l₃ 0 s₁) ∷ ‵ (fdies (sliceTy (tyRef (named 1) mut (pointee (Ac.the-row .written)))) l₃) ∷ ‵ (fat fullShare (sliceTy (tyRef (named 0) mut (pointee (Pr.the-row .written)))) l₂ 0 s₀) ∷ ‵ (fdies (sliceTy (tyRef (named 0) mut (pointee (Pr.the-row .written)))) l₂) ∷ ‵ (fat fullShare Sz′.mir l₁ 0 (valSz z)) ∷ ‵ (fdies Sz′.mir l₁) ∷ ‵ (froom An′.mir l₀ 0) ∷ ‵ (fdies An′.mir l₀) ∷ []) (runs C Λ En pieces.t-20 (atRet En Post))
+          ∷ ‵ (froom (sliceTy (tyRef erased mut (pointee (Ms.the-row .written)))) l₃₃ 0) ∷ ‵ (froom (tyRef erased mut (pointee (Ms.the-row .written))) l₃₂ 0) ∷ ‵ (froom (sliceTy (tyRef erased mut (pointee (Le.the-row .written)))) l₃₁ 0) ∷ ‵ (froom (tyRef erased mut (pointee (Le.the-row .written))) l₃₀ 0) ∷ ‵ (froom (sliceTy (tyRef erased mut (pointee (Ac.the-row .written)))) l₂₉ 0) ∷ ‵ (froom (tyRef erased mut (pointee (Ac.the-row .written))) l₂₈ 0) ∷ ‵ (froom (sliceTy (tyRef erased mut (pointee (Pr.the-row .written)))) l₂₇ 0) ∷ ‵ (froom (tyRef erased mut (pointee (Pr.the-row .written))) l₂₆ 0) ∷ ‵ (froom (sliceTy (tyRef erased imm (pointee (Ms.the-row .written)))) l₂₅ 0) ∷ ‵ (froom (tyRef erased imm (pointee (Ms.the-row .written))) l₂₄ 0) ∷ ‵ (froom (sliceTy (tyRef erased imm (pointee (Le.the-row .written)))) l₂₃ 0) ∷ ‵ (froom (tyRef erased imm (pointee (Le.the-row .written))) l₂₂ 0) ∷ ‵ (froom (sliceTy (tyRef erased imm (pointee (Ac.the-row .written)))) l₂₁ 0) ∷ ‵ (froom (tyRef erased imm (pointee (Ac.the-row .written))) l₂₀ 0) ∷ ‵ (froom (sliceTy (tyRef erased imm (pointee (Pr.the-row .written)))) l₁₉ 0) ∷ ‵ (froom (tyRef erased imm (pointee (Pr.the-row .written))) l₁₈ 0) ∷ ‵ (froom word l₁₇ 0) ∷ ‵ (froom word l₁₆ 0) ∷ ‵ (froom word l₁₅ 0) ∷ ‵ (froom word l₁₄ 0) ∷ ‵ (fat fullShare byte l₁₃ 0 (vint w8 n)) ∷ ‵ (fat fullShare byte l₁₂ 0 (vint w8 k)) ∷ ‵ (fat fullShare tyBool l₁₁ 0 (vbool m)) ∷ ‵ (fat fullShare tyBool l₁₀ 0 (vbool l)) ∷ ‵ (fat fullShare tyBool l₉ 0 (vbool a)) ∷ ‵ (fat fullShare tyBool l₈ 0 (vbool p)) ∷ ‵ (fat fullShare tyBool l₇ 0 (vbool all-sized)) ∷ ‵ (fat fullShare Ev′.mir l₆ 0 (valEv e)) ∷ ‵ (fat fullShare (sliceTy (tyRef (named 3) mut (pointee (Ms.the-row .written)))) l₅ 0 s₃) ∷ ‵ (fat fullShare (sliceTy (tyRef (named 2) mut (pointee (Le.the-row .written)))) l₄ 0 s₂) ∷ ‵ (fat fullShare (sliceTy (tyRef (named 1) mut (pointee (Ac.the-row .written)))) l₃ 0 s₁) ∷ ‵ (fat fullShare (sliceTy (tyRef (named 0) mut (pointee (Pr.the-row .written)))) l₂ 0 s₀) ∷ ‵ (fat fullShare Sz′.mir l₁ 0 (valSz z)) ∷ ‵ (froom An′.mir l₀ 0) ∷ Dies ∷ []) (runs C Λ En pieces.t-20 (atRet En Post))
       part-5 g7 g8 g9 g10 g11 g12 g13 =
-          assigns ! (addr ! (from ! (fld ! refl (hop ! (look-in ! 70 (sub ! 0 refl (whole !))) (stop !))))) (from ! (stop !)) (init ! 22 refl (tt, tt)) $
-          assigns ! (agg ! (and-then ! (reads ! (from ! (stop !)) (look ! 22 refl)) (and-then ! (reads ! (from ! (fld ! refl (stop !))) (look-in ! 70 (sub ! 1 refl (whole !)))) (no-more !)))) (from ! (stop !)) (init ! 20 refl (tt, (tt, (record { fits = room₀ .0 }, tt)))) $
-          assigns ! (addr ! (from ! (fld ! refl (hop ! (look-in ! 68 (sub ! 0 refl (whole !))) (stop !))))) (from ! (stop !)) (init ! 18 refl (tt, tt)) $
-          assigns ! (agg ! (and-then ! (reads ! (from ! (stop !)) (look ! 18 refl)) (and-then ! (reads ! (from ! (fld ! refl (stop !))) (look-in ! 68 (sub ! 1 refl (whole !)))) (no-more !)))) (from ! (stop !)) (init ! 16 refl (tt, (tt, (record { fits = room₁ .0 }, tt)))) $
-          assigns ! (addr ! (from ! (fld ! refl (hop ! (look-in ! 66 (sub ! 0 refl (whole !))) (stop !))))) (from ! (stop !)) (init ! 14 refl (tt, tt)) $
-          assigns ! (agg ! (and-then ! (reads ! (from ! (stop !)) (look ! 14 refl)) (and-then ! (reads ! (from ! (fld ! refl (stop !))) (look-in ! 66 (sub ! 1 refl (whole !)))) (no-more !)))) (from ! (stop !)) (init ! 12 refl (tt, (tt, (record { fits = room₂ .0 }, tt)))) $
-          assigns ! (addr ! (from ! (fld ! refl (hop ! (look-in ! 64 (sub ! 0 refl (whole !))) (stop !))))) (from ! (stop !)) (init ! 10 refl (tt, tt)) $
-          assigns ! (agg ! (and-then ! (reads ! (from ! (stop !)) (look ! 10 refl)) (and-then ! (reads ! (from ! (fld ! refl (stop !))) (look-in ! 64 (sub ! 1 refl (whole !)))) (no-more !)))) (from ! (stop !)) (init ! 8 refl (tt, (tt, (record { fits = room₃ .0 }, tt)))) $
+          assigns ! (addr ! (from ! (fld ! refl (hop ! (look-in ! 39 (sub ! 0 refl (whole !))) (stop !))))) (from ! (stop !)) (init ! 15 refl (tt, tt)) $
+          assigns ! (agg ! (and-then ! (reads ! (from ! (stop !)) (look ! 15 refl)) (and-then ! (reads ! (from ! (fld ! refl (stop !))) (look-in ! 39 (sub ! 1 refl (whole !)))) (no-more !)))) (from ! (stop !)) (init ! 14 refl (tt, (tt, (record { fits = room₀ .0 }, tt)))) $
+          assigns ! (addr ! (from ! (fld ! refl (hop ! (look-in ! 38 (sub ! 0 refl (whole !))) (stop !))))) (from ! (stop !)) (init ! 13 refl (tt, tt)) $
+          assigns ! (agg ! (and-then ! (reads ! (from ! (stop !)) (look ! 13 refl)) (and-then ! (reads ! (from ! (fld ! refl (stop !))) (look-in ! 38 (sub ! 1 refl (whole !)))) (no-more !)))) (from ! (stop !)) (init ! 12 refl (tt, (tt, (record { fits = room₁ .0 }, tt)))) $
+          assigns ! (addr ! (from ! (fld ! refl (hop ! (look-in ! 37 (sub ! 0 refl (whole !))) (stop !))))) (from ! (stop !)) (init ! 11 refl (tt, tt)) $
+          assigns ! (agg ! (and-then ! (reads ! (from ! (stop !)) (look ! 11 refl)) (and-then ! (reads ! (from ! (fld ! refl (stop !))) (look-in ! 37 (sub ! 1 refl (whole !)))) (no-more !)))) (from ! (stop !)) (init ! 10 refl (tt, (tt, (record { fits = room₂ .0 }, tt)))) $
+          assigns ! (addr ! (from ! (fld ! refl (hop ! (look-in ! 36 (sub ! 0 refl (whole !))) (stop !))))) (from ! (stop !)) (init ! 9 refl (tt, tt)) $
+          assigns ! (agg ! (and-then ! (reads ! (from ! (stop !)) (look ! 9 refl)) (and-then ! (reads ! (from ! (fld ! refl (stop !))) (look-in ! 36 (sub ! 1 refl (whole !)))) (no-more !)))) (from ! (stop !)) (init ! 8 refl (tt, (tt, (record { fits = room₃ .0 }, tt)))) $
           move ! (6 ∷ 7 ∷ 4 ∷ 5 ∷ 2 ∷ 3 ∷ 0 ∷ 1 ∷ []) $
           calls ! fm (passed Sz.the-row valsSz makesSz z gz
           ∷ lent Pr.the-row κ₀ q₀ γ₀ b₀ o₀ n₀ ps (r .proposers) refl room₀
@@ -279,88 +283,87 @@ module _ {M : Type 1} (𝓤 : URA M) (H : Heap 𝓤) (A : Atoms 𝓤) (W : Given
           ∷ lent Ms.the-row κ₃ q₃ γ₃ b₃ o₃ n₃ t (r .slots) refl room₃
           ∷ passed Ev.the-row valsEv makesEv e ge
           ∷ passed u8 (uint-vals w8) (uint-makes 𝓤 H A W w8) n g13 ∷ [])
-          An.the-row (repeat.clauses 𝓤 H A mem run) known-repeat valAn (EL.tells An.the-type An′.the-laws) (r .answer) (λ w. tt) (λ w. factI 𝓤 _ (emp 𝓤) fitting) (λ w v ws. id⊢ 𝓤 _) (λ w. (and-then ! (reads ! (from ! (stop !)) (look ! 66 refl)) (and-then ! (reads ! (from ! (stop !)) (look ! 14 refl)) (and-then ! (reads ! (from ! (stop !)) (look ! 10 refl)) (and-then ! (reads ! (from ! (stop !)) (look ! 6 refl)) (and-then ! (reads ! (from ! (stop !)) (look ! 2 refl)) (and-then ! (reads ! (from ! (stop !)) (look ! 56 refl)) (and-then ! (reads ! (from ! (stop !)) (look ! 42 refl)) (no-more !))))))))) (λ g0 e0.
-          land ! (from ! (stop !)) (init ! 74 refl (typedAn (r .answer) g0)) $
-          returns ! (look ! 74 refl) $ forget ! 8 refl $ forget ! 10 refl $ forget ! 12 refl $ forget ! 14 refl $ forget ! 16 refl $ forget ! 18 refl $ forget ! 20 refl $ forget ! 22 refl $ forget ! 48 refl $ forget ! 50 refl $ forget ! 52 refl $ forget ! 54 refl $ forget ! 56 refl $ forget ! 58 refl $ forget ! 60 refl $ forget ! 62 refl $ forget ! 64 refl $ forget ! 66 refl $ forget ! 68 refl $ forget ! 70 refl $ forget ! 72 refl $ forget ! 74 refl $
-          move ! (74 ∷ 75 ∷ []) $ free1 ! $ move ! (72 ∷ 73 ∷ []) $ free1 ! $ move ! (70 ∷ 71 ∷ []) $ free1 ! $ move ! (68 ∷ 69 ∷ []) $ free1 ! $ move ! (66 ∷ 67 ∷ []) $ free1 ! $ move ! (64 ∷ 65 ∷ []) $ free1 ! $ move ! (62 ∷ 63 ∷ []) $ free1 ! $ move ! (60 ∷ 61 ∷ []) $ free1 ! $ move ! (58 ∷ 59 ∷ []) $ free1 ! $ move ! (56 ∷ 57 ∷ []) $ free1 ! $ move ! (54 ∷ 55 ∷ []) $ free1 ! $ move ! (52 ∷ 53 ∷ []) $ free1 ! $ move ! (50 ∷ 51 ∷ []) $ free1 ! $ move ! (48 ∷ 49 ∷ []) $ free1 ! $ move ! (46 ∷ 47 ∷ []) $ free1 ! $ move ! (44 ∷ 45 ∷ []) $ free1 ! $ move ! (42 ∷ 43 ∷ []) $ free1 ! $ move ! (40 ∷ 41 ∷ []) $ free1 ! $ move ! (38 ∷ 39 ∷ []) $ free1 ! $ move ! (36 ∷ 37 ∷ []) $ free1 ! $ move ! (34 ∷ 35 ∷ []) $ free1 ! $ move ! (32 ∷ 33 ∷ []) $ free1 ! $ move ! (30 ∷ 31 ∷ []) $ free1 ! $ move ! (28 ∷ 29 ∷ []) $ free1 ! $ move ! (26 ∷ 27 ∷ []) $ free1 ! $ move ! (24 ∷ 25 ∷ []) $ free1 ! $ move ! (22 ∷ 23 ∷ []) $ free1 ! $ move ! (20 ∷ 21 ∷ []) $ free1 ! $ move ! (18 ∷ 19 ∷ []) $ free1 ! $ move ! (16 ∷ 17 ∷ []) $ free1 ! $ move ! (14 ∷ 15 ∷ []) $ free1 ! $ move ! (12 ∷ 13 ∷ []) $ free1 ! $ move ! (10 ∷ 11 ∷ []) $ free1 ! $ move ! (8 ∷ 9 ∷ []) $ free1 ! $ free0 ! $
+          An.the-row (repeat.clauses 𝓤 H A mem run) known-repeat valAn (EL.tells An.the-type An′.the-laws) (r .answer) (λ w. tt) (λ w. factI 𝓤 _ (emp 𝓤) fitting) (λ w v ws. id⊢ 𝓤 _) (λ w. (and-then ! (reads ! (from ! (stop !)) (look ! 34 refl)) (and-then ! (reads ! (from ! (stop !)) (look ! 8 refl)) (and-then ! (reads ! (from ! (stop !)) (look ! 6 refl)) (and-then ! (reads ! (from ! (stop !)) (look ! 4 refl)) (and-then ! (reads ! (from ! (stop !)) (look ! 2 refl)) (and-then ! (reads ! (from ! (stop !)) (look ! 29 refl)) (and-then ! (reads ! (from ! (stop !)) (look ! 22 refl)) (no-more !))))))))) (λ g0 e0.
+          land ! (from ! (stop !)) (init ! 41 refl (typedAn (r .answer) g0)) $
+          returns ! (look ! 41 refl) $ frees-all ! 8 (full _ _ _ ∷ full _ _ _ ∷ full _ _ _ ∷ full _ _ _ ∷ full _ _ _ ∷ full _ _ _ ∷ full _ _ _ ∷ full _ _ _ ∷ bare _ _ ∷ bare _ _ ∷ bare _ _ ∷ bare _ _ ∷ bare _ _ ∷ bare _ _ ∷ bare _ _ ∷ bare _ _ ∷ bare _ _ ∷ bare _ _ ∷ bare _ _ ∷ bare _ _ ∷ full _ _ _ ∷ full _ _ _ ∷ full _ _ _ ∷ full _ _ _ ∷ full _ _ _ ∷ full _ _ _ ∷ full _ _ _ ∷ full _ _ _ ∷ full _ _ _ ∷ full _ _ _ ∷ full _ _ _ ∷ full _ _ _ ∷ full _ _ _ ∷ full _ _ _ ∷ []) refl refl $
           keep ! (0 ∷ 1 ∷ 2 ∷ 3 ∷ 4 ∷ 5 ∷ 6 ∷ 7 ∷ []) $ by ! (exits g0 (e0 .0) (e0 .1 .0) (e0 .1 .1 .0) (e0 .1 .1 .1 .0)))
 
       part-4 : (g7 : Is bool all-sized (bool-vals all-sized)) → (g8 : Is bool p (bool-vals p)) → (g9 : Is bool a (bool-vals a)) → (g10 : Is bool l (bool-vals l)) → (g11 : Is bool m (bool-vals m)) → Sq W (‵ (Slice Ms.the-row κ₃ γ₃ b₃ o₃ n₃ t) ∷ ‵ (flft κ₃ q₃) ∷ ‵ (Slice Le.the-row κ₂ γ₂ b₂ o₂ n₂ ls) ∷ ‵ (flft κ₂ q₂) ∷ ‵ (Slice Ac.the-row κ₁ γ₁ b₁ o₁ n₁ acs) ∷ ‵ (flft κ₁ q₁) ∷ ‵ (Slice Pr.the-row κ₀ γ₀ b₀ o₀ n₀ ps) ∷ ‵ (flft κ₀ q₀)
-          ∷ ‵ (froom (sliceTy (tyRef erased mut (pointee (Ms.the-row .written)))) l₃₃ 0) ∷ ‵ (fdies (sliceTy (tyRef erased mut (pointee (Ms.the-row .written)))) l₃₃) ∷ ‵ (froom (tyRef erased mut (pointee (Ms.the-row .written))) l₃₂ 0) ∷ ‵ (fdies (tyRef erased mut (pointee (Ms.the-row .written))) l₃₂) ∷ ‵ (froom (sliceTy (tyRef erased mut (pointee (Le.the-row .written)))) l₃₁ 0) ∷ ‵ (fdies (sliceTy (tyRef erased mut (pointee (Le.the-row .written)))) l₃₁) ∷ ‵ (froom (tyRef erased mut (pointee (Le.the-row .written))) l₃₀ 0) ∷ ‵ (fdies (tyRef erased mut (pointee (Le.the-row .written))) l₃₀) ∷ ‵ (froom (sliceTy (tyRef erased mut (pointee (Ac.the-row .written)))) l₂₉ 0) ∷ ‵ (fdies (sliceTy (tyRef erased mut (pointee (Ac.the-row .written)))) l₂₉) ∷ ‵ (froom (tyRef erased mut (pointee (Ac.the-row .written))) l₂₈ 0) ∷ ‵ (fdies (tyRef erased mut (pointee (Ac.the-row .written))) l₂₈) ∷ ‵ (froom (sliceTy (tyRef erased mut (pointee (Pr.the-row .written)))) l₂₇ 0) ∷ ‵ (fdies (sliceTy (tyRef erased mut (pointee (Pr.the-row .written)))) l₂₇) ∷ ‵ (froom (tyRef erased mut (pointee (Pr.the-row .written))) l₂₆ 0) ∷ ‵ (fdies (tyRef erased mut (pointee (Pr.the-row .written))) l₂₆) ∷ ‵ (froom (sliceTy (tyRef erased imm (pointee (Ms.the-row .written)))) l₂₅ 0) ∷ ‵ (fdies (sliceTy (tyRef erased imm (pointee (Ms.the-row .written)))) l₂₅) ∷ ‵ (froom (tyRef erased imm (pointee (Ms.the-row .written))) l₂₄ 0) ∷ ‵ (fdies (tyRef erased imm (pointee (Ms.the-row .written))) l₂₄) ∷ ‵ (froom (sliceTy (tyRef erased imm (pointee (Le.the-row .written)))) l₂₃ 0) ∷ ‵ (fdies (sliceTy (tyRef erased imm (pointee (Le.the-row .written)))) l₂₃) ∷ ‵ (froom (tyRef erased imm (pointee (Le.the-row .written))) l₂₂ 0) ∷ ‵ (fdies (tyRef erased imm (pointee (Le.the-row .written))) l₂₂) ∷ ‵ (froom (sliceTy (tyRef erased imm (pointee (Ac.the-row .written)))) l₂₁ 0) ∷ ‵ (fdies (sliceTy (tyRef erased imm (pointee (Ac.the-row .written)))) l₂₁) ∷ ‵ (froom (tyRef erased imm (pointee (Ac.the-row .written))) l₂₀ 0) ∷ ‵ (fdies (tyRef erased imm (pointee (Ac.the-row .written))) l₂₀) ∷ ‵ (froom (sliceTy (tyRef erased imm (pointee (Pr.the-row .written)))) l₁₉ 0) ∷ ‵ (fdies (sliceTy (tyRef erased imm (pointee (Pr.the-row .written)))) l₁₉) ∷ ‵ (froom (tyRef erased imm (pointee (Pr.the-row .written))) l₁₈ 0) ∷ ‵ (fdies (tyRef erased imm (pointee (Pr.the-row .written))) l₁₈) ∷ ‵ (froom word l₁₇ 0) ∷ ‵ (fdies word l₁₇) ∷ ‵ (froom word l₁₆ 0) ∷ ‵ (fdies word l₁₆) ∷ ‵ (froom word l₁₅ 0) ∷ ‵ (fdies word l₁₅) ∷ ‵ (froom word l₁₄ 0) ∷ ‵ (fdies word l₁₄) ∷ ‵ (froom byte l₁₃ 0) ∷ ‵ (fdies byte l₁₃) ∷ ‵ (froom byte l₁₂ 0) ∷ ‵ (fdies byte l₁₂) ∷ ‵ (fat fullShare tyBool l₁₁ 0 (vbool m)) ∷ ‵ (fdies tyBool l₁₁) ∷ ‵ (fat fullShare tyBool l₁₀ 0 (vbool l)) ∷ ‵ (fdies tyBool l₁₀) ∷ ‵ (fat fullShare tyBool l₉ 0 (vbool a)) ∷ ‵ (fdies tyBool l₉) ∷ ‵ (fat fullShare tyBool l₈ 0 (vbool p)) ∷ ‵ (fdies tyBool l₈) ∷ ‵ (fat fullShare tyBool l₇ 0 (vbool all-sized)) ∷ ‵ (fdies tyBool l₇) ∷ ‵ (fat fullShare Ev′.mir l₆ 0 (valEv e)) ∷ ‵ (fdies Ev′.mir l₆) ∷ ‵ (fat fullShare (sliceTy (tyRef (named 3) mut (pointee (Ms.the-row .written)))) l₅ 0 s₃) ∷ ‵ (fdies (sliceTy (tyRef (named 3) mut (pointee (Ms.the-row .written)))) l₅) ∷ ‵ (fat fullShare (sliceTy (tyRef (named 2) mut (pointee (Le.the-row .written)))) l₄ 0 s₂) ∷ ‵ (fdies (sliceTy (tyRef (named 2) mut (pointee (Le.the-row .written)))) l₄) ∷ ‵ (fat fullShare (sliceTy (tyRef (named 1) mut (pointee (Ac.the-row .written)))) l₃ 0 s₁) ∷ ‵ (fdies (sliceTy (tyRef (named 1) mut (pointee (Ac.the-row .written)))) l₃) ∷ ‵ (fat fullShare (sliceTy (tyRef (named 0) mut (pointee (Pr.the-row .written)))) l₂ 0 s₀) ∷ ‵ (fdies (sliceTy (tyRef (named 0) mut (pointee (Pr.the-row .written)))) l₂) ∷ ‵ (fat fullShare Sz′.mir l₁ 0 (valSz z)) ∷ ‵ (fdies Sz′.mir l₁) ∷ ‵ (froom An′.mir l₀ 0) ∷ ‵ (fdies An′.mir l₀) ∷ []) (runs C Λ En pieces.t-18 (atRet En Post))
+          ∷ ‵ (froom (sliceTy (tyRef erased mut (pointee (Ms.the-row .written)))) l₃₃ 0) ∷ ‵ (froom (tyRef erased mut (pointee (Ms.the-row .written))) l₃₂ 0) ∷ ‵ (froom (sliceTy (tyRef erased mut (pointee (Le.the-row .written)))) l₃₁ 0) ∷ ‵ (froom (tyRef erased mut (pointee (Le.the-row .written))) l₃₀ 0) ∷ ‵ (froom (sliceTy (tyRef erased mut (pointee (Ac.the-row .written)))) l₂₉ 0) ∷ ‵ (froom (tyRef erased mut (pointee (Ac.the-row .written))) l₂₈ 0) ∷ ‵ (froom (sliceTy (tyRef erased mut (pointee (Pr.the-row .written)))) l₂₇ 0) ∷ ‵ (froom (tyRef erased mut (pointee (Pr.the-row .written))) l₂₆ 0) ∷ ‵ (froom (sliceTy (tyRef erased imm (pointee (Ms.the-row .written)))) l₂₅ 0) ∷ ‵ (froom (tyRef erased imm (pointee (Ms.the-row .written))) l₂₄ 0) ∷ ‵ (froom (sliceTy (tyRef erased imm (pointee (Le.the-row .written)))) l₂₃ 0) ∷ ‵ (froom (tyRef erased imm (pointee (Le.the-row .written))) l₂₂ 0) ∷ ‵ (froom (sliceTy (tyRef erased imm (pointee (Ac.the-row .written)))) l₂₁ 0) ∷ ‵ (froom (tyRef erased imm (pointee (Ac.the-row .written))) l₂₀ 0) ∷ ‵ (froom (sliceTy (tyRef erased imm (pointee (Pr.the-row .written)))) l₁₉ 0) ∷ ‵ (froom (tyRef erased imm (pointee (Pr.the-row .written))) l₁₈ 0) ∷ ‵ (froom word l₁₇ 0) ∷ ‵ (froom word l₁₆ 0) ∷ ‵ (froom word l₁₅ 0) ∷ ‵ (froom word l₁₄ 0) ∷ ‵ (froom byte l₁₃ 0) ∷ ‵ (froom byte l₁₂ 0) ∷ ‵ (fat fullShare tyBool l₁₁ 0 (vbool m)) ∷ ‵ (fat fullShare tyBool l₁₀ 0 (vbool l)) ∷ ‵ (fat fullShare tyBool l₉ 0 (vbool a)) ∷ ‵ (fat fullShare tyBool l₈ 0 (vbool p)) ∷ ‵ (fat fullShare tyBool l₇ 0 (vbool all-sized)) ∷ ‵ (fat fullShare Ev′.mir l₆ 0 (valEv e)) ∷ ‵ (fat fullShare (sliceTy (tyRef (named 3) mut (pointee (Ms.the-row .written)))) l₅ 0 s₃) ∷ ‵ (fat fullShare (sliceTy (tyRef (named 2) mut (pointee (Le.the-row .written)))) l₄ 0 s₂) ∷ ‵ (fat fullShare (sliceTy (tyRef (named 1) mut (pointee (Ac.the-row .written)))) l₃ 0 s₁) ∷ ‵ (fat fullShare (sliceTy (tyRef (named 0) mut (pointee (Pr.the-row .written)))) l₂ 0 s₀) ∷ ‵ (fat fullShare Sz′.mir l₁ 0 (valSz z)) ∷ ‵ (froom An′.mir l₀ 0) ∷ Dies ∷ []) (runs C Λ En pieces.t-18 (atRet En Post))
       part-4 g7 g8 g9 g10 g11 =
           calls-value ! fm (sound-no.signature .params) u8 (sound-no.ended .kept) (sound-no.clauses 𝓤 H A mem run) known-sound-no (bool-vals, (bool-vals, (bool-vals, (bool-vals, (bool-vals, tt))))) (bool-makes 𝓤 H A W, (bool-makes 𝓤 H A W, (bool-makes 𝓤 H A W, (bool-makes 𝓤 H A W, (bool-makes 𝓤 H A W, tt))))) (vint w8) (uint-tells w8)
-          (all-sized, (p, (a, (l, (m, tt))))) (g7, (g8, (g9, (g10, (g11, tt))))) tt (id⊢ 𝓤 (emp 𝓤)) k (λ r e′. id⊢ 𝓤 (fact 𝓤 (r ≡ k))) (and-then ! (reads ! (from ! (stop !)) (look ! 61 refl)) (and-then ! (reads ! (from ! (stop !)) (look ! 59 refl)) (and-then ! (reads ! (from ! (stop !)) (look ! 57 refl)) (and-then ! (reads ! (from ! (stop !)) (look ! 55 refl)) (and-then ! (reads ! (from ! (stop !)) (look ! 53 refl)) (no-more !)))))) (λ g12.
-          land ! (from ! (stop !)) (init ! 50 refl (tt, record { fits = g12 .1 })) $
+          (all-sized, (p, (a, (l, (m, tt))))) (g7, (g8, (g9, (g10, (g11, tt))))) tt (id⊢ 𝓤 (emp 𝓤)) k (λ r e′. id⊢ 𝓤 (fact 𝓤 (r ≡ k))) (and-then ! (reads ! (from ! (stop !)) (look ! 35 refl)) (and-then ! (reads ! (from ! (stop !)) (look ! 34 refl)) (and-then ! (reads ! (from ! (stop !)) (look ! 33 refl)) (and-then ! (reads ! (from ! (stop !)) (look ! 32 refl)) (and-then ! (reads ! (from ! (stop !)) (look ! 31 refl)) (no-more !)))))) (λ g12.
+          land ! (from ! (stop !)) (init ! 29 refl (tt, record { fits = g12 .1 })) $
           calls-value ! fm (once-if.signature .params) u8 (once-if.ended .kept) (once-if.clauses 𝓤 H A mem run) known-once-if (uint-vals w8, tt) (uint-makes 𝓤 H A W w8, tt) (vint w8) (uint-tells w8)
-          (k, tt) (g12, tt) tt (id⊢ 𝓤 (emp 𝓤)) n (λ r e′. id⊢ 𝓤 (fact 𝓤 (r ≡ n))) (and-then ! (reads ! (from ! (stop !)) (look ! 51 refl)) (no-more !)) (λ g13.
-          land ! (from ! (stop !)) (init ! 48 refl (tt, record { fits = g13 .1 })) $
+          (k, tt) (g12, tt) tt (id⊢ 𝓤 (emp 𝓤)) n (λ r e′. id⊢ 𝓤 (fact 𝓤 (r ≡ n))) (and-then ! (reads ! (from ! (stop !)) (look ! 30 refl)) (no-more !)) (λ g13.
+          land ! (from ! (stop !)) (init ! 28 refl (tt, record { fits = g13 .1 })) $
           part-5 g7 g8 g9 g10 g11 g12 g13))
 
       part-3 : (g7 : Is bool all-sized (bool-vals all-sized)) → (g8 : Is bool p (bool-vals p)) → (g9 : Is bool a (bool-vals a)) → Sq W (‵ (Slice Ac.the-row κ₁ γ₁ b₁ o₁ n₁ acs) ∷ ‵ (flft κ₁ q₁) ∷ ‵ (Slice Pr.the-row κ₀ γ₀ b₀ o₀ n₀ ps) ∷ ‵ (flft κ₀ q₀) ∷ ‵ (Slice Le.the-row κ₂ γ₂ b₂ o₂ n₂ ls) ∷ ‵ (flft κ₂ q₂) ∷ ‵ (Slice Ms.the-row κ₃ γ₃ b₃ o₃ n₃ t) ∷ ‵ (flft κ₃ q₃)
-          ∷ ‵ (froom (sliceTy (tyRef erased mut (pointee (Ms.the-row .written)))) l₃₃ 0) ∷ ‵ (fdies (sliceTy (tyRef erased mut (pointee (Ms.the-row .written)))) l₃₃) ∷ ‵ (froom (tyRef erased mut (pointee (Ms.the-row .written))) l₃₂ 0) ∷ ‵ (fdies (tyRef erased mut (pointee (Ms.the-row .written))) l₃₂) ∷ ‵ (froom (sliceTy (tyRef erased mut (pointee (Le.the-row .written)))) l₃₁ 0) ∷ ‵ (fdies (sliceTy (tyRef erased mut (pointee (Le.the-row .written)))) l₃₁) ∷ ‵ (froom (tyRef erased mut (pointee (Le.the-row .written))) l₃₀ 0) ∷ ‵ (fdies (tyRef erased mut (pointee (Le.the-row .written))) l₃₀) ∷ ‵ (froom (sliceTy (tyRef erased mut (pointee (Ac.the-row .written)))) l₂₉ 0) ∷ ‵ (fdies (sliceTy (tyRef erased mut (pointee (Ac.the-row .written)))) l₂₉) ∷ ‵ (froom (tyRef erased mut (pointee (Ac.the-row .written))) l₂₈ 0) ∷ ‵ (fdies (tyRef erased mut (pointee (Ac.the-row .written))) l₂₈) ∷ ‵ (froom (sliceTy (tyRef erased mut (pointee (Pr.the-row .written)))) l₂₇ 0) ∷ ‵ (fdies (sliceTy (tyRef erased mut (pointee (Pr.the-row .written)))) l₂₇) ∷ ‵ (froom (tyRef erased mut (pointee (Pr.the-row .written))) l₂₆ 0) ∷ ‵ (fdies (tyRef erased mut (pointee (Pr.the-row .written))) l₂₆) ∷ ‵ (froom (sliceTy (tyRef erased imm (pointee (Ms.the-row .written)))) l₂₅ 0) ∷ ‵ (fdies (sliceTy (tyRef erased imm (pointee (Ms.the-row .written)))) l₂₅) ∷ ‵ (froom (tyRef erased imm (pointee (Ms.the-row .written))) l₂₄ 0) ∷ ‵ (fdies (tyRef erased imm (pointee (Ms.the-row .written))) l₂₄) ∷ ‵ (froom (sliceTy (tyRef erased imm (pointee (Le.the-row .written)))) l₂₃ 0) ∷ ‵ (fdies (sliceTy (tyRef erased imm (pointee (Le.the-row .written)))) l₂₃) ∷ ‵ (froom (tyRef erased imm (pointee (Le.the-row .written))) l₂₂ 0) ∷ ‵ (fdies (tyRef erased imm (pointee (Le.the-row .written))) l₂₂) ∷ ‵ (froom (sliceTy (tyRef erased imm (pointee (Ac.the-row .written)))) l₂₁ 0) ∷ ‵ (fdies (sliceTy (tyRef erased imm (pointee (Ac.the-row .written)))) l₂₁) ∷ ‵ (froom (tyRef erased imm (pointee (Ac.the-row .written))) l₂₀ 0) ∷ ‵ (fdies (tyRef erased imm (pointee (Ac.the-row .written))) l₂₀) ∷ ‵ (froom (sliceTy (tyRef erased imm (pointee (Pr.the-row .written)))) l₁₉ 0) ∷ ‵ (fdies (sliceTy (tyRef erased imm (pointee (Pr.the-row .written)))) l₁₉) ∷ ‵ (froom (tyRef erased imm (pointee (Pr.the-row .written))) l₁₈ 0) ∷ ‵ (fdies (tyRef erased imm (pointee (Pr.the-row .written))) l₁₈) ∷ ‵ (froom word l₁₇ 0) ∷ ‵ (fdies word l₁₇) ∷ ‵ (froom word l₁₆ 0) ∷ ‵ (fdies word l₁₆) ∷ ‵ (froom word l₁₅ 0) ∷ ‵ (fdies word l₁₅) ∷ ‵ (froom word l₁₄ 0) ∷ ‵ (fdies word l₁₄) ∷ ‵ (froom byte l₁₃ 0) ∷ ‵ (fdies byte l₁₃) ∷ ‵ (froom byte l₁₂ 0) ∷ ‵ (fdies byte l₁₂) ∷ ‵ (froom tyBool l₁₁ 0) ∷ ‵ (fdies tyBool l₁₁) ∷ ‵ (froom tyBool l₁₀ 0) ∷ ‵ (fdies tyBool l₁₀) ∷ ‵ (fat fullShare tyBool l₉ 0 (vbool a)) ∷ ‵ (fdies tyBool l₉) ∷ ‵ (fat fullShare tyBool l₈ 0 (vbool p)) ∷ ‵ (fdies tyBool l₈) ∷ ‵ (fat fullShare tyBool l₇ 0 (vbool all-sized)) ∷ ‵ (fdies tyBool l₇) ∷ ‵ (fat fullShare Ev′.mir l₆ 0 (valEv e)) ∷ ‵ (fdies Ev′.mir l₆) ∷ ‵ (fat fullShare (sliceTy (tyRef (named 3) mut (pointee (Ms.the-row .written)))) l₅ 0 s₃) ∷ ‵ (fdies (sliceTy (tyRef (named 3) mut (pointee (Ms.the-row .written)))) l₅) ∷ ‵ (fat fullShare (sliceTy (tyRef (named 2) mut (pointee (Le.the-row .written)))) l₄ 0 s₂) ∷ ‵ (fdies (sliceTy (tyRef (named 2) mut (pointee (Le.the-row .written)))) l₄) ∷ ‵ (fat fullShare (sliceTy (tyRef (named 1) mut (pointee (Ac.the-row .written)))) l₃ 0 s₁) ∷ ‵ (fdies (sliceTy (tyRef (named 1) mut (pointee (Ac.the-row .written)))) l₃) ∷ ‵ (fat fullShare (sliceTy (tyRef (named 0) mut (pointee (Pr.the-row .written)))) l₂ 0 s₀) ∷ ‵ (fdies (sliceTy (tyRef (named 0) mut (pointee (Pr.the-row .written)))) l₂) ∷ ‵ (fat fullShare Sz′.mir l₁ 0 (valSz z)) ∷ ‵ (fdies Sz′.mir l₁) ∷ ‵ (froom An′.mir l₀ 0) ∷ ‵ (fdies An′.mir l₀) ∷ []) (runs C Λ En pieces.t-12 (atRet En Post))
+          ∷ ‵ (froom (sliceTy (tyRef erased mut (pointee (Ms.the-row .written)))) l₃₃ 0) ∷ ‵ (froom (tyRef erased mut (pointee (Ms.the-row .written))) l₃₂ 0) ∷ ‵ (froom (sliceTy (tyRef erased mut (pointee (Le.the-row .written)))) l₃₁ 0) ∷ ‵ (froom (tyRef erased mut (pointee (Le.the-row .written))) l₃₀ 0) ∷ ‵ (froom (sliceTy (tyRef erased mut (pointee (Ac.the-row .written)))) l₂₉ 0) ∷ ‵ (froom (tyRef erased mut (pointee (Ac.the-row .written))) l₂₈ 0) ∷ ‵ (froom (sliceTy (tyRef erased mut (pointee (Pr.the-row .written)))) l₂₇ 0) ∷ ‵ (froom (tyRef erased mut (pointee (Pr.the-row .written))) l₂₆ 0) ∷ ‵ (froom (sliceTy (tyRef erased imm (pointee (Ms.the-row .written)))) l₂₅ 0) ∷ ‵ (froom (tyRef erased imm (pointee (Ms.the-row .written))) l₂₄ 0) ∷ ‵ (froom (sliceTy (tyRef erased imm (pointee (Le.the-row .written)))) l₂₃ 0) ∷ ‵ (froom (tyRef erased imm (pointee (Le.the-row .written))) l₂₂ 0) ∷ ‵ (froom (sliceTy (tyRef erased imm (pointee (Ac.the-row .written)))) l₂₁ 0) ∷ ‵ (froom (tyRef erased imm (pointee (Ac.the-row .written))) l₂₀ 0) ∷ ‵ (froom (sliceTy (tyRef erased imm (pointee (Pr.the-row .written)))) l₁₉ 0) ∷ ‵ (froom (tyRef erased imm (pointee (Pr.the-row .written))) l₁₈ 0) ∷ ‵ (froom word l₁₇ 0) ∷ ‵ (froom word l₁₆ 0) ∷ ‵ (froom word l₁₅ 0) ∷ ‵ (froom word l₁₄ 0) ∷ ‵ (froom byte l₁₃ 0) ∷ ‵ (froom byte l₁₂ 0) ∷ ‵ (froom tyBool l₁₁ 0) ∷ ‵ (froom tyBool l₁₀ 0) ∷ ‵ (fat fullShare tyBool l₉ 0 (vbool a)) ∷ ‵ (fat fullShare tyBool l₈ 0 (vbool p)) ∷ ‵ (fat fullShare tyBool l₇ 0 (vbool all-sized)) ∷ ‵ (fat fullShare Ev′.mir l₆ 0 (valEv e)) ∷ ‵ (fat fullShare (sliceTy (tyRef (named 3) mut (pointee (Ms.the-row .written)))) l₅ 0 s₃) ∷ ‵ (fat fullShare (sliceTy (tyRef (named 2) mut (pointee (Le.the-row .written)))) l₄ 0 s₂) ∷ ‵ (fat fullShare (sliceTy (tyRef (named 1) mut (pointee (Ac.the-row .written)))) l₃ 0 s₁) ∷ ‵ (fat fullShare (sliceTy (tyRef (named 0) mut (pointee (Pr.the-row .written)))) l₂ 0 s₀) ∷ ‵ (fat fullShare Sz′.mir l₁ 0 (valSz z)) ∷ ‵ (froom An′.mir l₀ 0) ∷ Dies ∷ []) (runs C Λ En pieces.t-12 (atRet En Post))
       part-3 g7 g8 g9 =
-          assigns ! (addr ! (from ! (fld ! refl (hop ! (look-in ! 66 (sub ! 0 refl (whole !))) (stop !))))) (from ! (stop !)) (init ! 30 refl (tt, tt)) $
-          assigns ! (agg ! (and-then ! (reads ! (from ! (stop !)) (look ! 30 refl)) (and-then ! (reads ! (from ! (fld ! refl (stop !))) (look-in ! 66 (sub ! 1 refl (whole !)))) (no-more !)))) (from ! (stop !)) (init ! 28 refl (tt, (tt, (record { fits = room₂ .0 }, tt)))) $
+          assigns ! (addr ! (from ! (fld ! refl (hop ! (look-in ! 37 (sub ! 0 refl (whole !))) (stop !))))) (from ! (stop !)) (init ! 19 refl (tt, tt)) $
+          assigns ! (agg ! (and-then ! (reads ! (from ! (stop !)) (look ! 19 refl)) (and-then ! (reads ! (from ! (fld ! refl (stop !))) (look-in ! 37 (sub ! 1 refl (whole !)))) (no-more !)))) (from ! (stop !)) (init ! 18 refl (tt, (tt, (record { fits = room₂ .0 }, tt)))) $
           move ! (4 ∷ 5 ∷ []) $
           calls-shared ! fm Le.the-row (plain (λ _. Sz.the-row) ∷ []) bool (yes, tt) vbool bool-tells b₂ o₂ n₂ ls refl (λ ν. (valsSz, tt)) (λ ν. (makesSz, tt)) (λ ν. (z, tt)) (λ ν. (gz, tt))
-          (learners-in-range.clauses 𝓤 H A mem run) known-learners-in-range l (λ ν δ. tt) (λ ν δ. id⊢ 𝓤 (emp 𝓤)) (λ ν δ r e′. id⊢ 𝓤 (fact 𝓤 (r ≡ l))) (λ ν δ. (and-then ! (reads ! (from ! (stop !)) (look ! 31 refl)) (and-then ! (reads ! (from ! (stop !)) (look ! 75 refl)) (no-more !)))) (λ g10.
-          land ! (from ! (stop !)) (init ! 54 refl (tt, tt)) $
-          assigns ! (addr ! (from ! (fld ! refl (hop ! (look-in ! 64 (sub ! 0 refl (whole !))) (stop !))))) (from ! (stop !)) (init ! 26 refl (tt, tt)) $
-          assigns ! (agg ! (and-then ! (reads ! (from ! (stop !)) (look ! 26 refl)) (and-then ! (reads ! (from ! (fld ! refl (stop !))) (look-in ! 64 (sub ! 1 refl (whole !)))) (no-more !)))) (from ! (stop !)) (init ! 24 refl (tt, (tt, (record { fits = room₃ .0 }, tt)))) $
+          (learners-in-range.clauses 𝓤 H A mem run) known-learners-in-range l (λ ν δ. tt) (λ ν δ. id⊢ 𝓤 (emp 𝓤)) (λ ν δ r e′. id⊢ 𝓤 (fact 𝓤 (r ≡ l))) (λ ν δ. (and-then ! (reads ! (from ! (stop !)) (look ! 21 refl)) (and-then ! (reads ! (from ! (stop !)) (look ! 43 refl)) (no-more !)))) (λ g10.
+          land ! (from ! (stop !)) (init ! 31 refl (tt, tt)) $
+          assigns ! (addr ! (from ! (fld ! refl (hop ! (look-in ! 36 (sub ! 0 refl (whole !))) (stop !))))) (from ! (stop !)) (init ! 17 refl (tt, tt)) $
+          assigns ! (agg ! (and-then ! (reads ! (from ! (stop !)) (look ! 17 refl)) (and-then ! (reads ! (from ! (fld ! refl (stop !))) (look-in ! 36 (sub ! 1 refl (whole !)))) (no-more !)))) (from ! (stop !)) (init ! 16 refl (tt, (tt, (record { fits = room₃ .0 }, tt)))) $
           move ! (6 ∷ 7 ∷ []) $
           calls-shared ! fm Ms.the-row (plain (λ _. Sz.the-row) ∷ []) bool (yes, tt) vbool bool-tells b₃ o₃ n₃ t refl (λ ν. (valsSz, tt)) (λ ν. (makesSz, tt)) (λ ν. (z, tt)) (λ ν. (gz, tt))
-          (messages-in-range.clauses 𝓤 H A mem run) known-messages-in-range m (λ ν δ. tt) (λ ν δ. id⊢ 𝓤 (emp 𝓤)) (λ ν δ r e′. id⊢ 𝓤 (fact 𝓤 (r ≡ m))) (λ ν δ. (and-then ! (reads ! (from ! (stop !)) (look ! 27 refl)) (and-then ! (reads ! (from ! (stop !)) (look ! 75 refl)) (no-more !)))) (λ g11.
-          land ! (from ! (stop !)) (init ! 52 refl (tt, tt)) $
-          forget ! 30 refl $
-          forget ! 28 refl $
-          forget ! 26 refl $
-          forget ! 24 refl $
+          (messages-in-range.clauses 𝓤 H A mem run) known-messages-in-range m (λ ν δ. tt) (λ ν δ. id⊢ 𝓤 (emp 𝓤)) (λ ν δ r e′. id⊢ 𝓤 (fact 𝓤 (r ≡ m))) (λ ν δ. (and-then ! (reads ! (from ! (stop !)) (look ! 19 refl)) (and-then ! (reads ! (from ! (stop !)) (look ! 43 refl)) (no-more !)))) (λ g11.
+          land ! (from ! (stop !)) (init ! 30 refl (tt, tt)) $
+          forget ! 19 refl $
+          forget ! 18 refl $
+          forget ! 17 refl $
+          forget ! 16 refl $
           part-4 g7 g8 g9 g10 g11))
 
       part-2 : (g7 : Is bool all-sized (bool-vals all-sized)) → Sq W (‵ (Slice Pr.the-row κ₀ γ₀ b₀ o₀ n₀ ps) ∷ ‵ (flft κ₀ q₀) ∷ ‵ (Slice Ac.the-row κ₁ γ₁ b₁ o₁ n₁ acs) ∷ ‵ (flft κ₁ q₁) ∷ ‵ (Slice Le.the-row κ₂ γ₂ b₂ o₂ n₂ ls) ∷ ‵ (flft κ₂ q₂) ∷ ‵ (Slice Ms.the-row κ₃ γ₃ b₃ o₃ n₃ t) ∷ ‵ (flft κ₃ q₃)
-          ∷ ‵ (froom (sliceTy (tyRef erased mut (pointee (Ms.the-row .written)))) l₃₃ 0) ∷ ‵ (fdies (sliceTy (tyRef erased mut (pointee (Ms.the-row .written)))) l₃₃) ∷ ‵ (froom (tyRef erased mut (pointee (Ms.the-row .written))) l₃₂ 0) ∷ ‵ (fdies (tyRef erased mut (pointee (Ms.the-row .written))) l₃₂) ∷ ‵ (froom (sliceTy (tyRef erased mut (pointee (Le.the-row .written)))) l₃₁ 0) ∷ ‵ (fdies (sliceTy (tyRef erased mut (pointee (Le.the-row .written)))) l₃₁) ∷ ‵ (froom (tyRef erased mut (pointee (Le.the-row .written))) l₃₀ 0) ∷ ‵ (fdies (tyRef erased mut (pointee (Le.the-row .written))) l₃₀) ∷ ‵ (froom (sliceTy (tyRef erased mut (pointee (Ac.the-row .written)))) l₂₉ 0) ∷ ‵ (fdies (sliceTy (tyRef erased mut (pointee (Ac.the-row .written)))) l₂₉) ∷ ‵ (froom (tyRef erased mut (pointee (Ac.the-row .written))) l₂₈ 0) ∷ ‵ (fdies (tyRef erased mut (pointee (Ac.the-row .written))) l₂₈) ∷ ‵ (froom (sliceTy (tyRef erased mut (pointee (Pr.the-row .written)))) l₂₇ 0) ∷ ‵ (fdies (sliceTy (tyRef erased mut (pointee (Pr.the-row .written)))) l₂₇) ∷ ‵ (froom (tyRef erased mut (pointee (Pr.the-row .written))) l₂₆ 0) ∷ ‵ (fdies (tyRef erased mut (pointee (Pr.the-row .written))) l₂₆) ∷ ‵ (froom (sliceTy (tyRef erased imm (pointee (Ms.the-row .written)))) l₂₅ 0) ∷ ‵ (fdies (sliceTy (tyRef erased imm (pointee (Ms.the-row .written)))) l₂₅) ∷ ‵ (froom (tyRef erased imm (pointee (Ms.the-row .written))) l₂₄ 0) ∷ ‵ (fdies (tyRef erased imm (pointee (Ms.the-row .written))) l₂₄) ∷ ‵ (froom (sliceTy (tyRef erased imm (pointee (Le.the-row .written)))) l₂₃ 0) ∷ ‵ (fdies (sliceTy (tyRef erased imm (pointee (Le.the-row .written)))) l₂₃) ∷ ‵ (froom (tyRef erased imm (pointee (Le.the-row .written))) l₂₂ 0) ∷ ‵ (fdies (tyRef erased imm (pointee (Le.the-row .written))) l₂₂) ∷ ‵ (froom (sliceTy (tyRef erased imm (pointee (Ac.the-row .written)))) l₂₁ 0) ∷ ‵ (fdies (sliceTy (tyRef erased imm (pointee (Ac.the-row .written)))) l₂₁) ∷ ‵ (froom (tyRef erased imm (pointee (Ac.the-row .written))) l₂₀ 0) ∷ ‵ (fdies (tyRef erased imm (pointee (Ac.the-row .written))) l₂₀) ∷ ‵ (froom (sliceTy (tyRef erased imm (pointee (Pr.the-row .written)))) l₁₉ 0) ∷ ‵ (fdies (sliceTy (tyRef erased imm (pointee (Pr.the-row .written)))) l₁₉) ∷ ‵ (froom (tyRef erased imm (pointee (Pr.the-row .written))) l₁₈ 0) ∷ ‵ (fdies (tyRef erased imm (pointee (Pr.the-row .written))) l₁₈) ∷ ‵ (froom word l₁₇ 0) ∷ ‵ (fdies word l₁₇) ∷ ‵ (froom word l₁₆ 0) ∷ ‵ (fdies word l₁₆) ∷ ‵ (froom word l₁₅ 0) ∷ ‵ (fdies word l₁₅) ∷ ‵ (froom word l₁₄ 0) ∷ ‵ (fdies word l₁₄) ∷ ‵ (froom byte l₁₃ 0) ∷ ‵ (fdies byte l₁₃) ∷ ‵ (froom byte l₁₂ 0) ∷ ‵ (fdies byte l₁₂) ∷ ‵ (froom tyBool l₁₁ 0) ∷ ‵ (fdies tyBool l₁₁) ∷ ‵ (froom tyBool l₁₀ 0) ∷ ‵ (fdies tyBool l₁₀) ∷ ‵ (froom tyBool l₉ 0) ∷ ‵ (fdies tyBool l₉) ∷ ‵ (froom tyBool l₈ 0) ∷ ‵ (fdies tyBool l₈) ∷ ‵ (fat fullShare tyBool l₇ 0 (vbool all-sized)) ∷ ‵ (fdies tyBool l₇) ∷ ‵ (fat fullShare Ev′.mir l₆ 0 (valEv e)) ∷ ‵ (fdies Ev′.mir l₆) ∷ ‵ (fat fullShare (sliceTy (tyRef (named 3) mut (pointee (Ms.the-row .written)))) l₅ 0 s₃) ∷ ‵ (fdies (sliceTy (tyRef (named 3) mut (pointee (Ms.the-row .written)))) l₅) ∷ ‵ (fat fullShare (sliceTy (tyRef (named 2) mut (pointee (Le.the-row .written)))) l₄ 0 s₂) ∷ ‵ (fdies (sliceTy (tyRef (named 2) mut (pointee (Le.the-row .written)))) l₄) ∷ ‵ (fat fullShare (sliceTy (tyRef (named 1) mut (pointee (Ac.the-row .written)))) l₃ 0 s₁) ∷ ‵ (fdies (sliceTy (tyRef (named 1) mut (pointee (Ac.the-row .written)))) l₃) ∷ ‵ (fat fullShare (sliceTy (tyRef (named 0) mut (pointee (Pr.the-row .written)))) l₂ 0 s₀) ∷ ‵ (fdies (sliceTy (tyRef (named 0) mut (pointee (Pr.the-row .written)))) l₂) ∷ ‵ (fat fullShare Sz′.mir l₁ 0 (valSz z)) ∷ ‵ (fdies Sz′.mir l₁) ∷ ‵ (froom An′.mir l₀ 0) ∷ ‵ (fdies An′.mir l₀) ∷ []) (runs C Λ En pieces.t-6 (atRet En Post))
+          ∷ ‵ (froom (sliceTy (tyRef erased mut (pointee (Ms.the-row .written)))) l₃₃ 0) ∷ ‵ (froom (tyRef erased mut (pointee (Ms.the-row .written))) l₃₂ 0) ∷ ‵ (froom (sliceTy (tyRef erased mut (pointee (Le.the-row .written)))) l₃₁ 0) ∷ ‵ (froom (tyRef erased mut (pointee (Le.the-row .written))) l₃₀ 0) ∷ ‵ (froom (sliceTy (tyRef erased mut (pointee (Ac.the-row .written)))) l₂₉ 0) ∷ ‵ (froom (tyRef erased mut (pointee (Ac.the-row .written))) l₂₈ 0) ∷ ‵ (froom (sliceTy (tyRef erased mut (pointee (Pr.the-row .written)))) l₂₇ 0) ∷ ‵ (froom (tyRef erased mut (pointee (Pr.the-row .written))) l₂₆ 0) ∷ ‵ (froom (sliceTy (tyRef erased imm (pointee (Ms.the-row .written)))) l₂₅ 0) ∷ ‵ (froom (tyRef erased imm (pointee (Ms.the-row .written))) l₂₄ 0) ∷ ‵ (froom (sliceTy (tyRef erased imm (pointee (Le.the-row .written)))) l₂₃ 0) ∷ ‵ (froom (tyRef erased imm (pointee (Le.the-row .written))) l₂₂ 0) ∷ ‵ (froom (sliceTy (tyRef erased imm (pointee (Ac.the-row .written)))) l₂₁ 0) ∷ ‵ (froom (tyRef erased imm (pointee (Ac.the-row .written))) l₂₀ 0) ∷ ‵ (froom (sliceTy (tyRef erased imm (pointee (Pr.the-row .written)))) l₁₉ 0) ∷ ‵ (froom (tyRef erased imm (pointee (Pr.the-row .written))) l₁₈ 0) ∷ ‵ (froom word l₁₇ 0) ∷ ‵ (froom word l₁₆ 0) ∷ ‵ (froom word l₁₅ 0) ∷ ‵ (froom word l₁₄ 0) ∷ ‵ (froom byte l₁₃ 0) ∷ ‵ (froom byte l₁₂ 0) ∷ ‵ (froom tyBool l₁₁ 0) ∷ ‵ (froom tyBool l₁₀ 0) ∷ ‵ (froom tyBool l₉ 0) ∷ ‵ (froom tyBool l₈ 0) ∷ ‵ (fat fullShare tyBool l₇ 0 (vbool all-sized)) ∷ ‵ (fat fullShare Ev′.mir l₆ 0 (valEv e)) ∷ ‵ (fat fullShare (sliceTy (tyRef (named 3) mut (pointee (Ms.the-row .written)))) l₅ 0 s₃) ∷ ‵ (fat fullShare (sliceTy (tyRef (named 2) mut (pointee (Le.the-row .written)))) l₄ 0 s₂) ∷ ‵ (fat fullShare (sliceTy (tyRef (named 1) mut (pointee (Ac.the-row .written)))) l₃ 0 s₁) ∷ ‵ (fat fullShare (sliceTy (tyRef (named 0) mut (pointee (Pr.the-row .written)))) l₂ 0 s₀) ∷ ‵ (fat fullShare Sz′.mir l₁ 0 (valSz z)) ∷ ‵ (froom An′.mir l₀ 0) ∷ Dies ∷ []) (runs C Λ En pieces.t-6 (atRet En Post))
       part-2 g7 =
-          assigns ! (addr ! (from ! (fld ! refl (hop ! (look-in ! 70 (sub ! 0 refl (whole !))) (stop !))))) (from ! (stop !)) (init ! 38 refl (tt, tt)) $
-          assigns ! (agg ! (and-then ! (reads ! (from ! (stop !)) (look ! 38 refl)) (and-then ! (reads ! (from ! (fld ! refl (stop !))) (look-in ! 70 (sub ! 1 refl (whole !)))) (no-more !)))) (from ! (stop !)) (init ! 36 refl (tt, (tt, (record { fits = room₀ .0 }, tt)))) $
+          assigns ! (addr ! (from ! (fld ! refl (hop ! (look-in ! 39 (sub ! 0 refl (whole !))) (stop !))))) (from ! (stop !)) (init ! 23 refl (tt, tt)) $
+          assigns ! (agg ! (and-then ! (reads ! (from ! (stop !)) (look ! 23 refl)) (and-then ! (reads ! (from ! (fld ! refl (stop !))) (look-in ! 39 (sub ! 1 refl (whole !)))) (no-more !)))) (from ! (stop !)) (init ! 22 refl (tt, (tt, (record { fits = room₀ .0 }, tt)))) $
           calls-shared ! fm Pr.the-row (plain (λ _. Sz.the-row) ∷ []) bool (yes, tt) vbool bool-tells b₀ o₀ n₀ ps refl (λ ν. (valsSz, tt)) (λ ν. (makesSz, tt)) (λ ν. (z, tt)) (λ ν. (gz, tt))
-          (proposers-in-range.clauses 𝓤 H A mem run) known-proposers-in-range p (λ ν δ. tt) (λ ν δ. id⊢ 𝓤 (emp 𝓤)) (λ ν δ r e′. id⊢ 𝓤 (fact 𝓤 (r ≡ p))) (λ ν δ. (and-then ! (reads ! (from ! (stop !)) (look ! 39 refl)) (and-then ! (reads ! (from ! (stop !)) (look ! 75 refl)) (no-more !)))) (λ g8.
-          land ! (from ! (stop !)) (init ! 58 refl (tt, tt)) $
-          assigns ! (addr ! (from ! (fld ! refl (hop ! (look-in ! 68 (sub ! 0 refl (whole !))) (stop !))))) (from ! (stop !)) (init ! 34 refl (tt, tt)) $
-          assigns ! (agg ! (and-then ! (reads ! (from ! (stop !)) (look ! 34 refl)) (and-then ! (reads ! (from ! (fld ! refl (stop !))) (look-in ! 68 (sub ! 1 refl (whole !)))) (no-more !)))) (from ! (stop !)) (init ! 32 refl (tt, (tt, (record { fits = room₁ .0 }, tt)))) $
+          (proposers-in-range.clauses 𝓤 H A mem run) known-proposers-in-range p (λ ν δ. tt) (λ ν δ. id⊢ 𝓤 (emp 𝓤)) (λ ν δ r e′. id⊢ 𝓤 (fact 𝓤 (r ≡ p))) (λ ν δ. (and-then ! (reads ! (from ! (stop !)) (look ! 25 refl)) (and-then ! (reads ! (from ! (stop !)) (look ! 43 refl)) (no-more !)))) (λ g8.
+          land ! (from ! (stop !)) (init ! 33 refl (tt, tt)) $
+          assigns ! (addr ! (from ! (fld ! refl (hop ! (look-in ! 38 (sub ! 0 refl (whole !))) (stop !))))) (from ! (stop !)) (init ! 21 refl (tt, tt)) $
+          assigns ! (agg ! (and-then ! (reads ! (from ! (stop !)) (look ! 21 refl)) (and-then ! (reads ! (from ! (fld ! refl (stop !))) (look-in ! 38 (sub ! 1 refl (whole !)))) (no-more !)))) (from ! (stop !)) (init ! 20 refl (tt, (tt, (record { fits = room₁ .0 }, tt)))) $
           move ! (2 ∷ 3 ∷ []) $
           calls-shared ! fm Ac.the-row (plain (λ _. Sz.the-row) ∷ []) bool (yes, tt) vbool bool-tells b₁ o₁ n₁ acs refl (λ ν. (valsSz, tt)) (λ ν. (makesSz, tt)) (λ ν. (z, tt)) (λ ν. (gz, tt))
-          (acceptors-in-range.clauses 𝓤 H A mem run) known-acceptors-in-range a (λ ν δ. tt) (λ ν δ. id⊢ 𝓤 (emp 𝓤)) (λ ν δ r e′. id⊢ 𝓤 (fact 𝓤 (r ≡ a))) (λ ν δ. (and-then ! (reads ! (from ! (stop !)) (look ! 35 refl)) (and-then ! (reads ! (from ! (stop !)) (look ! 75 refl)) (no-more !)))) (λ g9.
-          land ! (from ! (stop !)) (init ! 56 refl (tt, tt)) $
-          forget ! 38 refl $
-          forget ! 36 refl $
-          forget ! 34 refl $
-          forget ! 32 refl $
+          (acceptors-in-range.clauses 𝓤 H A mem run) known-acceptors-in-range a (λ ν δ. tt) (λ ν δ. id⊢ 𝓤 (emp 𝓤)) (λ ν δ r e′. id⊢ 𝓤 (fact 𝓤 (r ≡ a))) (λ ν δ. (and-then ! (reads ! (from ! (stop !)) (look ! 23 refl)) (and-then ! (reads ! (from ! (stop !)) (look ! 43 refl)) (no-more !)))) (λ g9.
+          land ! (from ! (stop !)) (init ! 32 refl (tt, tt)) $
+          forget ! 23 refl $
+          forget ! 22 refl $
+          forget ! 21 refl $
+          forget ! 20 refl $
           part-3 g7 g8 g9))
 
       part-1 : Sq W (‵ (Slice Pr.the-row κ₀ γ₀ b₀ o₀ n₀ ps) ∷ ‵ (flft κ₀ q₀) ∷ ‵ (Slice Ac.the-row κ₁ γ₁ b₁ o₁ n₁ acs) ∷ ‵ (flft κ₁ q₁) ∷ ‵ (Slice Le.the-row κ₂ γ₂ b₂ o₂ n₂ ls) ∷ ‵ (flft κ₂ q₂) ∷ ‵ (Slice Ms.the-row κ₃ γ₃ b₃ o₃ n₃ t) ∷ ‵ (flft κ₃ q₃)
-          ∷ ‵ (froom (sliceTy (tyRef erased mut (pointee (Ms.the-row .written)))) l₃₃ 0) ∷ ‵ (fdies (sliceTy (tyRef erased mut (pointee (Ms.the-row .written)))) l₃₃) ∷ ‵ (froom (tyRef erased mut (pointee (Ms.the-row .written))) l₃₂ 0) ∷ ‵ (fdies (tyRef erased mut (pointee (Ms.the-row .written))) l₃₂) ∷ ‵ (froom (sliceTy (tyRef erased mut (pointee (Le.the-row .written)))) l₃₁ 0) ∷ ‵ (fdies (sliceTy (tyRef erased mut (pointee (Le.the-row .written)))) l₃₁) ∷ ‵ (froom (tyRef erased mut (pointee (Le.the-row .written))) l₃₀ 0) ∷ ‵ (fdies (tyRef erased mut (pointee (Le.the-row .written))) l₃₀) ∷ ‵ (froom (sliceTy (tyRef erased mut (pointee (Ac.the-row .written)))) l₂₉ 0) ∷ ‵ (fdies (sliceTy (tyRef erased mut (pointee (Ac.the-row .written)))) l₂₉) ∷ ‵ (froom (tyRef erased mut (pointee (Ac.the-row .written))) l₂₈ 0) ∷ ‵ (fdies (tyRef erased mut (pointee (Ac.the-row .written))) l₂₈) ∷ ‵ (froom (sliceTy (tyRef erased mut (pointee (Pr.the-row .written)))) l₂₇ 0) ∷ ‵ (fdies (sliceTy (tyRef erased mut (pointee (Pr.the-row .written)))) l₂₇) ∷ ‵ (froom (tyRef erased mut (pointee (Pr.the-row .written))) l₂₆ 0) ∷ ‵ (fdies (tyRef erased mut (pointee (Pr.the-row .written))) l₂₆) ∷ ‵ (froom (sliceTy (tyRef erased imm (pointee (Ms.the-row .written)))) l₂₅ 0) ∷ ‵ (fdies (sliceTy (tyRef erased imm (pointee (Ms.the-row .written)))) l₂₅) ∷ ‵ (froom (tyRef erased imm (pointee (Ms.the-row .written))) l₂₄ 0) ∷ ‵ (fdies (tyRef erased imm (pointee (Ms.the-row .written))) l₂₄) ∷ ‵ (froom (sliceTy (tyRef erased imm (pointee (Le.the-row .written)))) l₂₃ 0) ∷ ‵ (fdies (sliceTy (tyRef erased imm (pointee (Le.the-row .written)))) l₂₃) ∷ ‵ (froom (tyRef erased imm (pointee (Le.the-row .written))) l₂₂ 0) ∷ ‵ (fdies (tyRef erased imm (pointee (Le.the-row .written))) l₂₂) ∷ ‵ (froom (sliceTy (tyRef erased imm (pointee (Ac.the-row .written)))) l₂₁ 0) ∷ ‵ (fdies (sliceTy (tyRef erased imm (pointee (Ac.the-row .written)))) l₂₁) ∷ ‵ (froom (tyRef erased imm (pointee (Ac.the-row .written))) l₂₀ 0) ∷ ‵ (fdies (tyRef erased imm (pointee (Ac.the-row .written))) l₂₀) ∷ ‵ (froom (sliceTy (tyRef erased imm (pointee (Pr.the-row .written)))) l₁₉ 0) ∷ ‵ (fdies (sliceTy (tyRef erased imm (pointee (Pr.the-row .written)))) l₁₉) ∷ ‵ (froom (tyRef erased imm (pointee (Pr.the-row .written))) l₁₈ 0) ∷ ‵ (fdies (tyRef erased imm (pointee (Pr.the-row .written))) l₁₈) ∷ ‵ (froom word l₁₇ 0) ∷ ‵ (fdies word l₁₇) ∷ ‵ (froom word l₁₆ 0) ∷ ‵ (fdies word l₁₆) ∷ ‵ (froom word l₁₅ 0) ∷ ‵ (fdies word l₁₅) ∷ ‵ (froom word l₁₄ 0) ∷ ‵ (fdies word l₁₄) ∷ ‵ (froom byte l₁₃ 0) ∷ ‵ (fdies byte l₁₃) ∷ ‵ (froom byte l₁₂ 0) ∷ ‵ (fdies byte l₁₂) ∷ ‵ (froom tyBool l₁₁ 0) ∷ ‵ (fdies tyBool l₁₁) ∷ ‵ (froom tyBool l₁₀ 0) ∷ ‵ (fdies tyBool l₁₀) ∷ ‵ (froom tyBool l₉ 0) ∷ ‵ (fdies tyBool l₉) ∷ ‵ (froom tyBool l₈ 0) ∷ ‵ (fdies tyBool l₈) ∷ ‵ (froom tyBool l₇ 0) ∷ ‵ (fdies tyBool l₇) ∷ ‵ (fat fullShare Ev′.mir l₆ 0 (valEv e)) ∷ ‵ (fdies Ev′.mir l₆) ∷ ‵ (fat fullShare (sliceTy (tyRef (named 3) mut (pointee (Ms.the-row .written)))) l₅ 0 s₃) ∷ ‵ (fdies (sliceTy (tyRef (named 3) mut (pointee (Ms.the-row .written)))) l₅) ∷ ‵ (fat fullShare (sliceTy (tyRef (named 2) mut (pointee (Le.the-row .written)))) l₄ 0 s₂) ∷ ‵ (fdies (sliceTy (tyRef (named 2) mut (pointee (Le.the-row .written)))) l₄) ∷ ‵ (fat fullShare (sliceTy (tyRef (named 1) mut (pointee (Ac.the-row .written)))) l₃ 0 s₁) ∷ ‵ (fdies (sliceTy (tyRef (named 1) mut (pointee (Ac.the-row .written)))) l₃) ∷ ‵ (fat fullShare (sliceTy (tyRef (named 0) mut (pointee (Pr.the-row .written)))) l₂ 0 s₀) ∷ ‵ (fdies (sliceTy (tyRef (named 0) mut (pointee (Pr.the-row .written)))) l₂) ∷ ‵ (fat fullShare Sz′.mir l₁ 0 (valSz z)) ∷ ‵ (fdies Sz′.mir l₁) ∷ ‵ (froom An′.mir l₀ 0) ∷ ‵ (fdies An′.mir l₀) ∷ []) (runs C Λ En pieces.t-1 (atRet En Post))
+          ∷ ‵ (froom (sliceTy (tyRef erased mut (pointee (Ms.the-row .written)))) l₃₃ 0) ∷ ‵ (froom (tyRef erased mut (pointee (Ms.the-row .written))) l₃₂ 0) ∷ ‵ (froom (sliceTy (tyRef erased mut (pointee (Le.the-row .written)))) l₃₁ 0) ∷ ‵ (froom (tyRef erased mut (pointee (Le.the-row .written))) l₃₀ 0) ∷ ‵ (froom (sliceTy (tyRef erased mut (pointee (Ac.the-row .written)))) l₂₉ 0) ∷ ‵ (froom (tyRef erased mut (pointee (Ac.the-row .written))) l₂₈ 0) ∷ ‵ (froom (sliceTy (tyRef erased mut (pointee (Pr.the-row .written)))) l₂₇ 0) ∷ ‵ (froom (tyRef erased mut (pointee (Pr.the-row .written))) l₂₆ 0) ∷ ‵ (froom (sliceTy (tyRef erased imm (pointee (Ms.the-row .written)))) l₂₅ 0) ∷ ‵ (froom (tyRef erased imm (pointee (Ms.the-row .written))) l₂₄ 0) ∷ ‵ (froom (sliceTy (tyRef erased imm (pointee (Le.the-row .written)))) l₂₃ 0) ∷ ‵ (froom (tyRef erased imm (pointee (Le.the-row .written))) l₂₂ 0) ∷ ‵ (froom (sliceTy (tyRef erased imm (pointee (Ac.the-row .written)))) l₂₁ 0) ∷ ‵ (froom (tyRef erased imm (pointee (Ac.the-row .written))) l₂₀ 0) ∷ ‵ (froom (sliceTy (tyRef erased imm (pointee (Pr.the-row .written)))) l₁₉ 0) ∷ ‵ (froom (tyRef erased imm (pointee (Pr.the-row .written))) l₁₈ 0) ∷ ‵ (froom word l₁₇ 0) ∷ ‵ (froom word l₁₆ 0) ∷ ‵ (froom word l₁₅ 0) ∷ ‵ (froom word l₁₄ 0) ∷ ‵ (froom byte l₁₃ 0) ∷ ‵ (froom byte l₁₂ 0) ∷ ‵ (froom tyBool l₁₁ 0) ∷ ‵ (froom tyBool l₁₀ 0) ∷ ‵ (froom tyBool l₉ 0) ∷ ‵ (froom tyBool l₈ 0) ∷ ‵ (froom tyBool l₇ 0) ∷ ‵ (fat fullShare Ev′.mir l₆ 0 (valEv e)) ∷ ‵ (fat fullShare (sliceTy (tyRef (named 3) mut (pointee (Ms.the-row .written)))) l₅ 0 s₃) ∷ ‵ (fat fullShare (sliceTy (tyRef (named 2) mut (pointee (Le.the-row .written)))) l₄ 0 s₂) ∷ ‵ (fat fullShare (sliceTy (tyRef (named 1) mut (pointee (Ac.the-row .written)))) l₃ 0 s₁) ∷ ‵ (fat fullShare (sliceTy (tyRef (named 0) mut (pointee (Pr.the-row .written)))) l₂ 0 s₀) ∷ ‵ (fat fullShare Sz′.mir l₁ 0 (valSz z)) ∷ ‵ (froom An′.mir l₀ 0) ∷ Dies ∷ []) (runs C Λ En pieces.t-1 (atRet En Post))
       part-1 =
-          assigns ! (of-opd ! (reads ! (from ! (fld ! refl (stop !))) (look-in ! 70 (sub ! 1 refl (whole !))))) (from ! (stop !)) (init ! 46 refl (tt, record { fits = room₀ .0 })) $
-          assigns ! (of-opd ! (reads ! (from ! (fld ! refl (stop !))) (look-in ! 68 (sub ! 1 refl (whole !))))) (from ! (stop !)) (init ! 44 refl (tt, record { fits = room₁ .0 })) $
-          assigns ! (of-opd ! (reads ! (from ! (fld ! refl (stop !))) (look-in ! 66 (sub ! 1 refl (whole !))))) (from ! (stop !)) (init ! 42 refl (tt, record { fits = room₂ .0 })) $
-          assigns ! (of-opd ! (reads ! (from ! (fld ! refl (stop !))) (look-in ! 64 (sub ! 1 refl (whole !))))) (from ! (stop !)) (init ! 40 refl (tt, record { fits = room₃ .0 })) $
+          assigns ! (of-opd ! (reads ! (from ! (fld ! refl (stop !))) (look-in ! 39 (sub ! 1 refl (whole !))))) (from ! (stop !)) (init ! 27 refl (tt, record { fits = room₀ .0 })) $
+          assigns ! (of-opd ! (reads ! (from ! (fld ! refl (stop !))) (look-in ! 38 (sub ! 1 refl (whole !))))) (from ! (stop !)) (init ! 26 refl (tt, record { fits = room₁ .0 })) $
+          assigns ! (of-opd ! (reads ! (from ! (fld ! refl (stop !))) (look-in ! 37 (sub ! 1 refl (whole !))))) (from ! (stop !)) (init ! 25 refl (tt, record { fits = room₂ .0 })) $
+          assigns ! (of-opd ! (reads ! (from ! (fld ! refl (stop !))) (look-in ! 36 (sub ! 1 refl (whole !))))) (from ! (stop !)) (init ! 24 refl (tt, record { fits = room₃ .0 })) $
           calls-value ! fm (sized.signature .params) bool (sized.ended .kept) (sized.clauses 𝓤 H A mem run) known-sized (valsSz, (uint-vals w64, (uint-vals w64, (uint-vals w64, (uint-vals w64, tt))))) (makesSz, (uint-makes 𝓤 H A W w64, (uint-makes 𝓤 H A W w64, (uint-makes 𝓤 H A W w64, (uint-makes 𝓤 H A W w64, tt))))) vbool bool-tells
-          (z, (n₀, (n₁, (n₂, (n₃, tt))))) (gz, ((refl, room₀ .0), ((refl, room₁ .0), ((refl, room₂ .0), ((refl, room₃ .0), tt))))) tt (id⊢ 𝓤 (emp 𝓤)) all-sized (λ r e′. id⊢ 𝓤 (fact 𝓤 (r ≡ all-sized))) (and-then ! (reads ! (from ! (stop !)) (look ! 73 refl)) (and-then ! (reads ! (from ! (stop !)) (look ! 47 refl)) (and-then ! (reads ! (from ! (stop !)) (look ! 45 refl)) (and-then ! (reads ! (from ! (stop !)) (look ! 43 refl)) (and-then ! (reads ! (from ! (stop !)) (look ! 41 refl)) (no-more !)))))) (λ g7.
-          land ! (from ! (stop !)) (init ! 60 refl (tt, tt)) $
-          forget ! 46 refl $
-          forget ! 44 refl $
-          forget ! 42 refl $
-          forget ! 40 refl $
+          (z, (n₀, (n₁, (n₂, (n₃, tt))))) (gz, ((refl, room₀ .0), ((refl, room₁ .0), ((refl, room₂ .0), ((refl, room₃ .0), tt))))) tt (id⊢ 𝓤 (emp 𝓤)) all-sized (λ r e′. id⊢ 𝓤 (fact 𝓤 (r ≡ all-sized))) (and-then ! (reads ! (from ! (stop !)) (look ! 41 refl)) (and-then ! (reads ! (from ! (stop !)) (look ! 28 refl)) (and-then ! (reads ! (from ! (stop !)) (look ! 27 refl)) (and-then ! (reads ! (from ! (stop !)) (look ! 26 refl)) (and-then ! (reads ! (from ! (stop !)) (look ! 25 refl)) (no-more !)))))) (λ g7.
+          land ! (from ! (stop !)) (init ! 34 refl (tt, tt)) $
+          forget ! 27 refl $
+          forget ! 26 refl $
+          forget ! 25 refl $
+          forget ! 24 refl $
           part-2 g7)
 
     walk : ent 𝓤 (onEntry 𝓤 H A this.signature (κ₀, (κ₁, (κ₂, (κ₃, tt)))) (q₀, (q₁, (q₂, (q₃, tt)))) (z, (listAt Pr.the-row b₀ o₀ ps γ₀, (listAt Ac.the-row b₁ o₁ acs γ₁, (listAt Le.the-row b₂ o₂ ls γ₂, (listAt Ms.the-row b₃ o₃ t γ₃, (e, tt)))))) at) (WpFn 𝓤 H C Λ code.function (valSz z ∷ s₀ ∷ s₁ ∷ s₂ ∷ s₃ ∷ valEv e ∷ []) Post)
     walk =
         qed W ((‵ (flft κ₀ q₀) ⊛ ‵ (flft κ₁ q₁) ⊛ ‵ (flft κ₂ q₂) ⊛ ‵ (flft κ₃ q₃) ⊛ ‵ ftrue) ∷ ‵ (owns (Sz.the-row ∷ MutSlice (named 0) κ₀ Pr.the-row ∷ MutSlice (named 1) κ₁ Ac.the-row ∷ MutSlice (named 2) κ₂ Le.the-row ∷ MutSlice (named 3) κ₃ Ms.the-row ∷ Ev.the-row ∷ []) (z, (listAt Pr.the-row b₀ o₀ ps γ₀, (listAt Ac.the-row b₁ o₁ acs γ₁, (listAt Le.the-row b₂ o₂ ls γ₂, (listAt Ms.the-row b₃ o₃ t γ₃, (e, tt)))))) at) ∷ []) ∵ enter ! C Λ code.function (valSz z ∷ s₀ ∷ s₁ ∷ s₂ ∷ s₃ ∷ valEv e ∷ []) _ $
-        alloc1 ! (λ l₀. alloc1 ! (λ l₁. alloc1 ! (λ l₂. alloc1 ! (λ l₃. alloc1 ! (λ l₄. alloc1 ! (λ l₅. alloc1 ! (λ l₆. alloc1 ! (λ l₇. alloc1 ! (λ l₈. alloc1 ! (λ l₉. alloc1 ! (λ l₁₀. alloc1 ! (λ l₁₁. alloc1 ! (λ l₁₂. alloc1 ! (λ l₁₃. alloc1 ! (λ l₁₄. alloc1 ! (λ l₁₅. alloc1 ! (λ l₁₆. alloc1 ! (λ l₁₇. alloc1 ! (λ l₁₈. alloc1 ! (λ l₁₉. alloc1 ! (λ l₂₀. alloc1 ! (λ l₂₁. alloc1 ! (λ l₂₂. alloc1 ! (λ l₂₃. alloc1 ! (λ l₂₄. alloc1 ! (λ l₂₅. alloc1 ! (λ l₂₆. alloc1 ! (λ l₂₇. alloc1 ! (λ l₂₈. alloc1 ! (λ l₂₉. alloc1 ! (λ l₃₀. alloc1 ! (λ l₃₁. alloc1 ! (λ l₃₂. alloc1 ! (λ l₃₃. alloc0 ! $ params1 ! $
-        pass1 ! (init ! 64 refl (typedSz z gz)) $ pass1 ! (init ! 62 refl (tt, (tt, (record { fits = room₀ .0 }, tt)))) $ pass1 ! (init ! 60 refl (tt, (tt, (record { fits = room₁ .0 }, tt)))) $ pass1 ! (init ! 58 refl (tt, (tt, (record { fits = room₂ .0 }, tt)))) $ pass1 ! (init ! 56 refl (tt, (tt, (record { fits = room₃ .0 }, tt)))) $ pass1 ! (init ! 54 refl (typedEv e ge)) $ pass0 ! $
-        move ! (69 ∷ []) $ fsplit ! $ move ! (1 ∷ []) $ fsplit ! $ move ! (1 ∷ []) $ fsplit ! $ move ! (1 ∷ []) $ fsplit ! $ move ! (1 ∷ []) $ fsplit ! $
-        move ! (74 ∷ []) $ split ! $ move ! (1 ∷ []) $ split ! $ move ! (1 ∷ []) $ split ! $ move ! (1 ∷ []) $ split ! $
-        keep ! (9 ∷ 4 ∷ 8 ∷ 3 ∷ 7 ∷ 2 ∷ 5 ∷ 0 ∷ 11 ∷ 12 ∷ 13 ∷ 14 ∷ 15 ∷ 16 ∷ 17 ∷ 18 ∷ 19 ∷ 20 ∷ 21 ∷ 22 ∷ 23 ∷ 24 ∷ 25 ∷ 26 ∷ 27 ∷ 28 ∷ 29 ∷ 30 ∷ 31 ∷ 32 ∷ 33 ∷ 34 ∷ 35 ∷ 36 ∷ 37 ∷ 38 ∷ 39 ∷ 40 ∷ 41 ∷ 42 ∷ 43 ∷ 44 ∷ 45 ∷ 46 ∷ 47 ∷ 48 ∷ 49 ∷ 50 ∷ 51 ∷ 52 ∷ 53 ∷ 54 ∷ 55 ∷ 56 ∷ 57 ∷ 58 ∷ 59 ∷ 60 ∷ 61 ∷ 62 ∷ 63 ∷ 64 ∷ 65 ∷ 66 ∷ 67 ∷ 68 ∷ 69 ∷ 70 ∷ 71 ∷ 72 ∷ 73 ∷ 74 ∷ 75 ∷ 76 ∷ 77 ∷ 78 ∷ []) $ part-1 l₀ l₁ l₂ l₃ l₄ l₅ l₆ l₇ l₈ l₉ l₁₀ l₁₁ l₁₂ l₁₃ l₁₄ l₁₅ l₁₆ l₁₇ l₁₈ l₁₉ l₂₀ l₂₁ l₂₂ l₂₃ l₂₄ l₂₅ l₂₆ l₂₇ l₂₈ l₂₉ l₃₀ l₃₁ l₃₂ l₃₃))))))))))))))))))))))))))))))))))
+        alloc1 ! (λ l₀. alloc1 ! (λ l₁. alloc1 ! (λ l₂. alloc1 ! (λ l₃. alloc1 ! (λ l₄. alloc1 ! (λ l₅. alloc1 ! (λ l₆. alloc1 ! (λ l₇. alloc1 ! (λ l₈. alloc1 ! (λ l₉. alloc1 ! (λ l₁₀. alloc1 ! (λ l₁₁. alloc1 ! (λ l₁₂. alloc1 ! (λ l₁₃. alloc1 ! (λ l₁₄. alloc1 ! (λ l₁₅. alloc1 ! (λ l₁₆. alloc1 ! (λ l₁₇. alloc1 ! (λ l₁₈. alloc1 ! (λ l₁₉. alloc1 ! (λ l₂₀. alloc1 ! (λ l₂₁. alloc1 ! (λ l₂₂. alloc1 ! (λ l₂₃. alloc1 ! (λ l₂₄. alloc1 ! (λ l₂₅. alloc1 ! (λ l₂₆. alloc1 ! (λ l₂₇. alloc1 ! (λ l₂₈. alloc1 ! (λ l₂₉. alloc1 ! (λ l₃₀. alloc1 ! (λ l₃₁. alloc1 ! (λ l₃₂. alloc1 ! (λ l₃₃. alloc0 ! $ dies-apart ! 34 $ params1 ! $
+        pass1 ! (init ! 33 refl (typedSz z gz)) $ pass1 ! (init ! 32 refl (tt, (tt, (record { fits = room₀ .0 }, tt)))) $ pass1 ! (init ! 31 refl (tt, (tt, (record { fits = room₁ .0 }, tt)))) $ pass1 ! (init ! 30 refl (tt, (tt, (record { fits = room₂ .0 }, tt)))) $ pass1 ! (init ! 29 refl (tt, (tt, (record { fits = room₃ .0 }, tt)))) $ pass1 ! (init ! 28 refl (typedEv e ge)) $ pass0 ! $
+        move ! (36 ∷ []) $ fsplit ! $ move ! (1 ∷ []) $ fsplit ! $ move ! (1 ∷ []) $ fsplit ! $ move ! (1 ∷ []) $ fsplit ! $ move ! (1 ∷ []) $ fsplit ! $
+        move ! (41 ∷ []) $ split ! $ move ! (1 ∷ []) $ split ! $ move ! (1 ∷ []) $ split ! $ move ! (1 ∷ []) $ split ! $
+        keep ! (9 ∷ 4 ∷ 8 ∷ 3 ∷ 7 ∷ 2 ∷ 5 ∷ 0 ∷ 12 ∷ 13 ∷ 14 ∷ 15 ∷ 16 ∷ 17 ∷ 18 ∷ 19 ∷ 20 ∷ 21 ∷ 22 ∷ 23 ∷ 24 ∷ 25 ∷ 26 ∷ 27 ∷ 28 ∷ 29 ∷ 30 ∷ 31 ∷ 32 ∷ 33 ∷ 34 ∷ 35 ∷ 36 ∷ 37 ∷ 38 ∷ 39 ∷ 40 ∷ 41 ∷ 42 ∷ 43 ∷ 44 ∷ 45 ∷ 11 ∷ []) $ part-1 l₀ l₁ l₂ l₃ l₄ l₅ l₆ l₇ l₈ l₉ l₁₀ l₁₁ l₁₂ l₁₃ l₁₄ l₁₅ l₁₆ l₁₇ l₁₈ l₁₉ l₂₀ l₂₁ l₂₂ l₂₃ l₂₄ l₂₅ l₂₆ l₂₇ l₂₈ l₂₉ l₃₀ l₃₁ l₃₂ l₃₃))))))))))))))))))))))))))))))))))
 
 module _ {M : Type 1} (𝓤 : URA M) (H : Heap 𝓤) (A : Atoms 𝓤) (W : Given 𝓤 H A) (mem : Memory → SProp 𝓤) (run : Routine → Fun 𝓤) (𝓣 : Tables 𝓤 H) (known-sized : Triple 𝓤 (𝓣 .C #sized) (Of-sized 𝓤 H A mem run)) (known-proposers-in-range : Triple 𝓤 (𝓣 .C #proposers-in-range) (Of-proposers-in-range 𝓤 H A mem run)) (known-acceptors-in-range : Triple 𝓤 (𝓣 .C #acceptors-in-range) (Of-acceptors-in-range 𝓤 H A mem run)) (known-learners-in-range : Triple 𝓤 (𝓣 .C #learners-in-range) (Of-learners-in-range 𝓤 H A mem run)) (known-messages-in-range : Triple 𝓤 (𝓣 .C #messages-in-range) (Of-messages-in-range 𝓤 H A mem run)) (known-sound-no : Triple 𝓤 (𝓣 .C #sound-no) (Of-sound-no 𝓤 H A mem run)) (known-once-if : Triple 𝓤 (𝓣 .C #once-if) (Of-once-if 𝓤 H A mem run)) (known-repeat : Triple 𝓤 (𝓣 .C #repeat) (Of-repeat 𝓤 H A mem run)) where
   f-walks : Walks 𝓤 H A this.ended stayed (WpFn 𝓤 H (𝓣 .C) (𝓣 .Λ) code.function) (this.clauses 𝓤 H A mem run)

@@ -17,9 +17,9 @@ use prog.Wp.{Heap, Env, Calls, Loops, WpFn, Tables}
 use ghost.Atoms.{Atoms}
 use contract.Monad.{Fun, fact}
 use contract.Running.{givenOf, tables, tablesOf}
-use types.Kit.{Given, ‵, _⊛_, ⋆, runs, atRet, Sq, _$_, _∵_, !, qed, by, move, keep, rewrite, split, join, fsplit, fjoin, suffices, frame, done}
+use types.Kit.{Given, Item, ‵, _⊛_, ⋆, runs, atRet, Sq, _$_, _∵_, !, qed, by, move, keep, rewrite, split, join, fsplit, fjoin, suffices, frame, done}
 use types.Part.{whole, sub, look-in}
-use types.Run.{look, init, store, forget, stop, hop, fld, from, load as reads, lit, addr, of-opd, bin, and-then, no-more, assigns, land, returns, enter, alloc1, alloc0, params1, pass1, pass0, free1, free0}
+use types.Run.{look, init, store, stop, hop, fld, from, load as reads, lit, addr, of-opd, bin, and-then, no-more, assigns, land, returns, enter, alloc1, alloc0, params1, pass1, pass0}
 use sound.WpLaws.{FmC, fmOf, WpFn-mono}
 use denote.RattleType.{owns}
 use denote.Laws.{Is, Makes, shows}
@@ -42,6 +42,7 @@ use lib.ListN.{getD}
 use Rattle.choice.specs.Choice.{if_then_else_}
 use Rattle.model.specs.Records.{freshLearner, unheard}
 use Rattle.machine.specs.Roles.{placeOf, earOf, putEar}
+use Rattle.machine.proofs.Frees.{full, dies-apart, frees-all}
 use Rattle.machine.proofs.Relending.{listAt}
 use Rattle.machine.proofs.CallsByValue.{calls-value}
 use Rattle.machine.proofs.WalkedLoops.{fits-place}
@@ -197,51 +198,53 @@ module _ {M : Type 1} (𝓤 : URA M) (H : Heap 𝓤) (A : Atoms 𝓤) (W : Given
       abbrev En : Env 𝓤 H
       En = (Ea′.mir, l₀) ∷ ((sliceTy (tyRef (named 0) imm (pointee (Le.the-row .written)))), l₁) ∷ (word, l₂) ∷ (Pi′.mir, l₃) ∷ (word, l₄) ∷ (tyBool, l₅) ∷ (Sc′.mir, l₆) ∷ (He′.mir, l₇) ∷ (word, l₈) ∷ (tyPtr, l₉) ∷ (tyPtr, l₁₀) ∷ (tyPtr, l₁₁) ∷ (word, l₁₂) ∷ (tyPtr, l₁₃) ∷ (tyPtr, l₁₄) ∷ (He′.mir, l₁₅) ∷ []
 
+      abbrev Dies : Item 𝓤
+      Dies = ‵ (fdies He′.mir l₁₅) ⊛ ‵ (fdies tyPtr l₁₄) ⊛ ‵ (fdies tyPtr l₁₃) ⊛ ‵ (fdies word l₁₂) ⊛ ‵ (fdies tyPtr l₁₁) ⊛ ‵ (fdies tyPtr l₁₀) ⊛ ‵ (fdies tyPtr l₉) ⊛ ‵ (fdies word l₈) ⊛ ‵ (fdies He′.mir l₇) ⊛ ‵ (fdies Sc′.mir l₆) ⊛ ‵ (fdies tyBool l₅) ⊛ ‵ (fdies word l₄) ⊛ ‵ (fdies Pi′.mir l₃) ⊛ ‵ (fdies word l₂) ⊛ ‵ (fdies (sliceTy (tyRef (named 0) imm (pointee (Le.the-row .written)))) l₁) ⊛ ‵ (fdies Ea′.mir l₀) ⊛ ‵ ftrue
+
       part-1 : Sq W (‵ (ShrSlice (named 0) κ₀ Le.the-row .own (listAt Le.the-row b₀ o₀ t γ₀) (s₀ ∷ [])) ∷ ‵ (flft κ₀ q₀)
-          ∷ ‵ (froom He′.mir l₁₅ 0) ∷ ‵ (fdies He′.mir l₁₅) ∷ ‵ (froom tyPtr l₁₄ 0) ∷ ‵ (fdies tyPtr l₁₄) ∷ ‵ (froom tyPtr l₁₃ 0) ∷ ‵ (fdies tyPtr l₁₃) ∷ ‵ (froom word l₁₂ 0) ∷ ‵ (fdies word l₁₂) ∷ ‵ (froom tyPtr l₁₁ 0) ∷ ‵ (fdies tyPtr l₁₁) ∷ ‵ (froom tyPtr l₁₀ 0) ∷ ‵ (fdies tyPtr l₁₀) ∷ ‵ (froom tyPtr l₉ 0) ∷ ‵ (fdies tyPtr l₉) ∷ ‵ (froom word l₈ 0) ∷ ‵ (fdies word l₈) ∷ ‵ (froom He′.mir l₇ 0) ∷ ‵ (fdies He′.mir l₇) ∷ ‵ (froom Sc′.mir l₆ 0) ∷ ‵ (fdies Sc′.mir l₆) ∷ ‵ (froom tyBool l₅ 0) ∷ ‵ (fdies tyBool l₅) ∷ ‵ (froom word l₄ 0) ∷ ‵ (fdies word l₄) ∷ ‵ (fat fullShare Pi′.mir l₃ 0 (valPi p)) ∷ ‵ (fdies Pi′.mir l₃) ∷ ‵ (fat fullShare word l₂ 0 (vint w64 i)) ∷ ‵ (fdies word l₂) ∷ ‵ (fat fullShare (sliceTy (tyRef (named 0) imm (pointee (Le.the-row .written)))) l₁ 0 s₀) ∷ ‵ (fdies (sliceTy (tyRef (named 0) imm (pointee (Le.the-row .written)))) l₁) ∷ ‵ (froom Ea′.mir l₀ 0) ∷ ‵ (fdies Ea′.mir l₀) ∷ []) (runs C Λ En pieces.t-1 (atRet En Post))
+          ∷ ‵ (froom He′.mir l₁₅ 0) ∷ ‵ (froom tyPtr l₁₄ 0) ∷ ‵ (froom tyPtr l₁₃ 0) ∷ ‵ (froom word l₁₂ 0) ∷ ‵ (froom tyPtr l₁₁ 0) ∷ ‵ (froom tyPtr l₁₀ 0) ∷ ‵ (froom tyPtr l₉ 0) ∷ ‵ (froom word l₈ 0) ∷ ‵ (froom He′.mir l₇ 0) ∷ ‵ (froom Sc′.mir l₆ 0) ∷ ‵ (froom tyBool l₅ 0) ∷ ‵ (froom word l₄ 0) ∷ ‵ (fat fullShare Pi′.mir l₃ 0 (valPi p)) ∷ ‵ (fat fullShare word l₂ 0 (vint w64 i)) ∷ ‵ (fat fullShare (sliceTy (tyRef (named 0) imm (pointee (Le.the-row .written)))) l₁ 0 s₀) ∷ ‵ (froom Ea′.mir l₀ 0) ∷ Dies ∷ []) (runs C Λ En pieces.t-1 (atRet En Post))
       part-1 =
           calls-value ! fm (place-of.signature .params) usize (place-of.ended .kept) (place-of.clauses 𝓤 H A mem run) known-place-of (valsPi, tt) (makesPi, tt) (vint w64) (uint-tells w64)
-          (p, tt) (gp, tt) tt (id⊢ 𝓤 (emp 𝓤)) pl (λ r e′. id⊢ 𝓤 (fact 𝓤 (r ≡ pl))) (and-then ! (reads ! (from ! (stop !)) (look ! 27 refl)) (no-more !)) (λ g4.
-          land ! (from ! (stop !)) (init ! 24 refl (tt, record { fits = g4 .1 })) $
+          (p, tt) (gp, tt) tt (id⊢ 𝓤 (emp 𝓤)) pl (λ r e′. id⊢ 𝓤 (fact 𝓤 (r ≡ pl))) (and-then ! (reads ! (from ! (stop !)) (look ! 15 refl)) (no-more !)) (λ g4.
+          land ! (from ! (stop !)) (init ! 13 refl (tt, record { fits = g4 .1 })) $
           fsplit ! $ move ! (1 ∷ []) $ fsplit ! $ move ! (1 ∷ 3 ∷ []) $
           looks-slice ! tt Le.the-row (Is Le.the-row) (shows 𝓤 H A Le.the-row) valsLe (LL.tells Le.the-type Le′.the-laws) (LL.copy Le.the-type Le′.the-copy 𝓤 H A W) t b₀ o₀ (λ q′.
           elem-out ! Le.the-row (Is Le.the-row) (shows 𝓤 H A Le.the-row) valsLe (LL.tells Le.the-type Le′.the-laws) q′ t i freshLearner b₀ o₀ in-i (λ g.
-          assigns ! (bin ! (reads ! (from ! (stop !)) (look ! 33 refl)) (lit ! tt) (record { fits = fits-place 208 i (length t) in-i (room₀ .1) })) (from ! (stop !)) (init ! 21 refl (tt, record { fits = fits-place 208 i (length t) in-i (room₀ .1) })) $
-          assigns ! (bin ! (reads ! (from ! (fld ! refl (stop !))) (look-in ! 35 (sub ! 0 refl (whole !)))) (reads ! (from ! (stop !)) (look ! 21 refl)) tt) (from ! (stop !)) (init ! 19 refl (tt, tt)) $
-          rewrite ! 19 (λ (y : ℕ). ‵ (fat fullShare tyPtr l₉ 0 (vptr b₀ y))) (sym (place-is 208 o₀ i)) refl $
-          assigns ! (of-opd ! (reads ! (from ! (hop ! (look ! 19 refl) (fld ! refl (stop !)))) (look-in ! 0 (sub ! 0 refl (behind ! {τ = Le′.mir} {v = valLe elem}))))) (from ! (stop !)) (init ! 27 refl (tt, tt)) $
-          assigns ! (bin ! (reads ! (from ! (stop !)) (look ! 33 refl)) (lit ! tt) (record { fits = fits-place 208 i (length t) in-i (room₀ .1) })) (from ! (stop !)) (store ! 21 refl (tt, record { fits = fits-place 208 i (length t) in-i (room₀ .1) })) $
-          assigns ! (bin ! (reads ! (from ! (fld ! refl (stop !))) (look-in ! 35 (sub ! 0 refl (whole !)))) (reads ! (from ! (stop !)) (look ! 21 refl)) tt) (from ! (stop !)) (init ! 17 refl (tt, tt)) $
-          rewrite ! 17 (λ (y : ℕ). ‵ (fat fullShare tyPtr l₁₀ 0 (vptr b₀ y))) (sym (place-is 208 o₀ i)) refl $
-          assigns ! (of-opd ! (reads ! (from ! (hop ! (look ! 17 refl) (fld ! refl (stop !)))) (look-in ! 0 (sub ! 1 refl (behind ! {τ = Le′.mir} {v = valLe elem}))))) (from ! (stop !)) (init ! 25 refl (typedSc (elem .learnt) (is-set elem g))) $
-          assigns ! (bin ! (reads ! (from ! (stop !)) (look ! 33 refl)) (lit ! tt) (record { fits = fits-place 208 i (length t) in-i (room₀ .1) })) (from ! (stop !)) (store ! 21 refl (tt, record { fits = fits-place 208 i (length t) in-i (room₀ .1) })) $
-          assigns ! (bin ! (reads ! (from ! (fld ! refl (stop !))) (look-in ! 35 (sub ! 0 refl (whole !)))) (reads ! (from ! (stop !)) (look ! 21 refl)) tt) (from ! (stop !)) (init ! 15 refl (tt, tt)) $
-          rewrite ! 15 (λ (y : ℕ). ‵ (fat fullShare tyPtr l₁₁ 0 (vptr b₀ y))) (sym (place-is 208 o₀ i)) refl $
-          assigns ! (bin ! (reads ! (from ! (stop !)) (look ! 29 refl)) (lit ! tt) (record { fits = fits-inner pl (place-below (p .0)) })) (from ! (stop !)) (init ! 13 refl (tt, record { fits = fits-inner pl (place-below (p .0)) })) $
-          assigns ! (addr ! (from ! (hop ! (look ! 15 refl) (fld ! refl (stop !))))) (from ! (stop !)) (init ! 11 refl (tt, tt)) $
-          assigns ! (bin ! (reads ! (from ! (stop !)) (look ! 11 refl)) (reads ! (from ! (stop !)) (look ! 13 refl)) tt) (from ! (stop !)) (init ! 9 refl (tt, tt)) $
-          rewrite ! 9 (λ (y : ℕ). ‵ (fat fullShare tyPtr l₁₄ 0 (vptr b₀ y))) (sym (place-is 24 (place 208 o₀ i + 16) pl)) refl $
-          assigns ! (of-opd ! (reads ! (from ! (hop ! (look ! 9 refl) (stop !))) (look-in ! 0 (item ! (machined (elem .heard)) pl (valHe unheard) (subst (λ (n : ℕ). pl < n) (sym (eight-of elem g)) (place-below (p .0))) (eight-of elem g) (sub ! 2 refl (behind ! {τ = Le′.mir} {v = valLe elem})))))) (from ! (stop !))
+          assigns ! (bin ! (reads ! (from ! (stop !)) (look ! 20 refl)) (lit ! tt) (record { fits = fits-place 208 i (length t) in-i (room₀ .1) })) (from ! (stop !)) (init ! 14 refl (tt, record { fits = fits-place 208 i (length t) in-i (room₀ .1) })) $
+          assigns ! (bin ! (reads ! (from ! (fld ! refl (stop !))) (look-in ! 21 (sub ! 0 refl (whole !)))) (reads ! (from ! (stop !)) (look ! 14 refl)) tt) (from ! (stop !)) (init ! 13 refl (tt, tt)) $
+          rewrite ! 13 (λ (y : ℕ). ‵ (fat fullShare tyPtr l₉ 0 (vptr b₀ y))) (sym (place-is 208 o₀ i)) refl $
+          assigns ! (of-opd ! (reads ! (from ! (hop ! (look ! 13 refl) (fld ! refl (stop !)))) (look-in ! 0 (sub ! 0 refl (behind ! {τ = Le′.mir} {v = valLe elem}))))) (from ! (stop !)) (init ! 17 refl (tt, tt)) $
+          assigns ! (bin ! (reads ! (from ! (stop !)) (look ! 20 refl)) (lit ! tt) (record { fits = fits-place 208 i (length t) in-i (room₀ .1) })) (from ! (stop !)) (store ! 14 refl (tt, record { fits = fits-place 208 i (length t) in-i (room₀ .1) })) $
+          assigns ! (bin ! (reads ! (from ! (fld ! refl (stop !))) (look-in ! 21 (sub ! 0 refl (whole !)))) (reads ! (from ! (stop !)) (look ! 14 refl)) tt) (from ! (stop !)) (init ! 12 refl (tt, tt)) $
+          rewrite ! 12 (λ (y : ℕ). ‵ (fat fullShare tyPtr l₁₀ 0 (vptr b₀ y))) (sym (place-is 208 o₀ i)) refl $
+          assigns ! (of-opd ! (reads ! (from ! (hop ! (look ! 12 refl) (fld ! refl (stop !)))) (look-in ! 0 (sub ! 1 refl (behind ! {τ = Le′.mir} {v = valLe elem}))))) (from ! (stop !)) (init ! 16 refl (typedSc (elem .learnt) (is-set elem g))) $
+          assigns ! (bin ! (reads ! (from ! (stop !)) (look ! 20 refl)) (lit ! tt) (record { fits = fits-place 208 i (length t) in-i (room₀ .1) })) (from ! (stop !)) (store ! 14 refl (tt, record { fits = fits-place 208 i (length t) in-i (room₀ .1) })) $
+          assigns ! (bin ! (reads ! (from ! (fld ! refl (stop !))) (look-in ! 21 (sub ! 0 refl (whole !)))) (reads ! (from ! (stop !)) (look ! 14 refl)) tt) (from ! (stop !)) (init ! 11 refl (tt, tt)) $
+          rewrite ! 11 (λ (y : ℕ). ‵ (fat fullShare tyPtr l₁₁ 0 (vptr b₀ y))) (sym (place-is 208 o₀ i)) refl $
+          assigns ! (bin ! (reads ! (from ! (stop !)) (look ! 18 refl)) (lit ! tt) (record { fits = fits-inner pl (place-below (p .0)) })) (from ! (stop !)) (init ! 10 refl (tt, record { fits = fits-inner pl (place-below (p .0)) })) $
+          assigns ! (addr ! (from ! (hop ! (look ! 11 refl) (fld ! refl (stop !))))) (from ! (stop !)) (init ! 9 refl (tt, tt)) $
+          assigns ! (bin ! (reads ! (from ! (stop !)) (look ! 9 refl)) (reads ! (from ! (stop !)) (look ! 10 refl)) tt) (from ! (stop !)) (init ! 8 refl (tt, tt)) $
+          rewrite ! 8 (λ (y : ℕ). ‵ (fat fullShare tyPtr l₁₄ 0 (vptr b₀ y))) (sym (place-is 24 (place 208 o₀ i + 16) pl)) refl $
+          assigns ! (of-opd ! (reads ! (from ! (hop ! (look ! 8 refl) (stop !))) (look-in ! 0 (item ! (machined (elem .heard)) pl (valHe unheard) (subst (λ (n : ℕ). pl < n) (sym (eight-of elem g)) (place-below (p .0))) (eight-of elem g) (sub ! 2 refl (behind ! {τ = Le′.mir} {v = valLe elem})))))) (from ! (stop !))
           (init ! 7 refl (subst (λ (v : Val). Holds (hasTy He′.mir v) × WT v) (sym (value-at (elem .heard) pl)) (typedHe h₀ (one-heard elem g pl (place-below (p .0)))))) $
           rewrite ! 7 (λ (v : Val). ‵ (fat fullShare He′.mir l₁₅ 0 v)) (value-at (elem .heard) pl) refl $
-          assigns ! (of-opd ! (reads ! (from ! (stop !)) (look ! 7 refl))) (from ! (stop !)) (init ! 23 refl (typedHe h₀ (one-heard elem g pl (place-below (p .0))))) $
+          assigns ! (of-opd ! (reads ! (from ! (stop !)) (look ! 7 refl))) (from ! (stop !)) (init ! 15 refl (typedHe h₀ (one-heard elem g pl (place-below (p .0))))) $
           elem-back ! Le.the-row q′ t i freshLearner (valsLe elem) b₀ o₀ in-i $ shuts-slice ! tt Le.the-row q′ t b₀ o₀ $
           move ! (2 ∷ 1 ∷ []) $ fjoin ! $ move ! (2 ∷ 0 ∷ []) $ fjoin ! $
           calls-value ! fm (ear-of.signature .params) Ea.the-row (ear-of.ended .kept) (ear-of.clauses 𝓤 H A mem run) known-ear-of (valsPi, (bool-vals, (valsSc, (valsHe, tt)))) (makesPi, (bool-makes 𝓤 H A W, (makesSc, (makesHe, tt)))) valEa (LL.tells Ea.the-type Ea′.the-laws)
-          (p, ((elem .alive), ((elem .learnt), (h₀, tt)))) (gp, ((is-alive elem g), ((is-set elem g), ((one-heard elem g pl (place-below (p .0))), tt)))) tt (id⊢ 𝓤 (emp 𝓤)) x₀ (λ r e′. id⊢ 𝓤 (fact 𝓤 (r ≡ x₀))) (and-then ! (reads ! (from ! (stop !)) (look ! 27 refl)) (and-then ! (reads ! (from ! (stop !)) (look ! 23 refl)) (and-then ! (reads ! (from ! (stop !)) (look ! 21 refl)) (and-then ! (reads ! (from ! (stop !)) (look ! 19 refl)) (no-more !))))) (λ g0.
-          land ! (from ! (stop !)) (init ! 32 refl (typedEa x₀ g0)) $
-          returns ! (look ! 32 refl) $ forget ! 2 refl $ forget ! 4 refl $ forget ! 6 refl $ forget ! 8 refl $ forget ! 10 refl $ forget ! 12 refl $ forget ! 14 refl $ forget ! 16 refl $ forget ! 18 refl $ forget ! 20 refl $ forget ! 22 refl $ forget ! 24 refl $ forget ! 26 refl $ forget ! 28 refl $ forget ! 30 refl $ forget ! 32 refl $
-          move ! (32 ∷ 33 ∷ []) $ free1 ! $ move ! (30 ∷ 31 ∷ []) $ free1 ! $ move ! (28 ∷ 29 ∷ []) $ free1 ! $ move ! (26 ∷ 27 ∷ []) $ free1 ! $ move ! (24 ∷ 25 ∷ []) $ free1 ! $ move ! (22 ∷ 23 ∷ []) $ free1 ! $ move ! (20 ∷ 21 ∷ []) $ free1 ! $ move ! (18 ∷ 19 ∷ []) $ free1 ! $ move ! (16 ∷ 17 ∷ []) $ free1 ! $ move ! (14 ∷ 15 ∷ []) $ free1 ! $ move ! (12 ∷ 13 ∷ []) $ free1 ! $ move ! (10 ∷ 11 ∷ []) $ free1 ! $ move ! (8 ∷ 9 ∷ []) $ free1 ! $ move ! (6 ∷ 7 ∷ []) $ free1 ! $ move ! (4 ∷ 5 ∷ []) $ free1 ! $ move ! (2 ∷ 3 ∷ []) $ free1 ! $ free0 ! $
+          (p, ((elem .alive), ((elem .learnt), (h₀, tt)))) (gp, ((is-alive elem g), ((is-set elem g), ((one-heard elem g pl (place-below (p .0))), tt)))) tt (id⊢ 𝓤 (emp 𝓤)) x₀ (λ r e′. id⊢ 𝓤 (fact 𝓤 (r ≡ x₀))) (and-then ! (reads ! (from ! (stop !)) (look ! 15 refl)) (and-then ! (reads ! (from ! (stop !)) (look ! 13 refl)) (and-then ! (reads ! (from ! (stop !)) (look ! 12 refl)) (and-then ! (reads ! (from ! (stop !)) (look ! 11 refl)) (no-more !))))) (λ g0.
+          land ! (from ! (stop !)) (init ! 17 refl (typedEa x₀ g0)) $
+          returns ! (look ! 17 refl) $ frees-all ! 2 (full _ _ _ ∷ full _ _ _ ∷ full _ _ _ ∷ full _ _ _ ∷ full _ _ _ ∷ full _ _ _ ∷ full _ _ _ ∷ full _ _ _ ∷ full _ _ _ ∷ full _ _ _ ∷ full _ _ _ ∷ full _ _ _ ∷ full _ _ _ ∷ full _ _ _ ∷ full _ _ _ ∷ full _ _ _ ∷ []) refl refl $
           keep ! (0 ∷ 1 ∷ []) $ by ! (exits (eight-heard elem g) g0)))))
 
     walk : ent 𝓤 (onEntry 𝓤 H A this.signature (κ₀, tt) (q₀, tt) (listAt Le.the-row b₀ o₀ t γ₀, (i, (p, tt))) at) (WpFn 𝓤 H C Λ code.function (s₀ ∷ vint w64 i ∷ valPi p ∷ []) Post)
     walk =
         qed W ((‵ (flft κ₀ q₀) ⊛ ‵ ftrue) ∷ ‵ (owns (ShrSlice (named 0) κ₀ Le.the-row ∷ usize ∷ Pi.the-row ∷ []) (listAt Le.the-row b₀ o₀ t γ₀, (i, (p, tt))) at) ∷ []) ∵ enter ! C Λ code.function (s₀ ∷ vint w64 i ∷ valPi p ∷ []) _ $
-        alloc1 ! (λ l₀. alloc1 ! (λ l₁. alloc1 ! (λ l₂. alloc1 ! (λ l₃. alloc1 ! (λ l₄. alloc1 ! (λ l₅. alloc1 ! (λ l₆. alloc1 ! (λ l₇. alloc1 ! (λ l₈. alloc1 ! (λ l₉. alloc1 ! (λ l₁₀. alloc1 ! (λ l₁₁. alloc1 ! (λ l₁₂. alloc1 ! (λ l₁₃. alloc1 ! (λ l₁₄. alloc1 ! (λ l₁₅. alloc0 ! $ params1 ! $
-        pass1 ! (init ! 28 refl (tt, (tt, (record { fits = room₀ .0 }, tt)))) $ pass1 ! (init ! 26 refl (tt, record { fits = gi .1 })) $ pass1 ! (init ! 24 refl (typedPi p gp)) $ pass0 ! $
-        move ! (33 ∷ []) $ fsplit ! $
-        move ! (34 ∷ []) $ split ! $
-        keep ! (2 ∷ 0 ∷ 4 ∷ 5 ∷ 6 ∷ 7 ∷ 8 ∷ 9 ∷ 10 ∷ 11 ∷ 12 ∷ 13 ∷ 14 ∷ 15 ∷ 16 ∷ 17 ∷ 18 ∷ 19 ∷ 20 ∷ 21 ∷ 22 ∷ 23 ∷ 24 ∷ 25 ∷ 26 ∷ 27 ∷ 28 ∷ 29 ∷ 30 ∷ 31 ∷ 32 ∷ 33 ∷ 34 ∷ 35 ∷ []) $ part-1 l₀ l₁ l₂ l₃ l₄ l₅ l₆ l₇ l₈ l₉ l₁₀ l₁₁ l₁₂ l₁₃ l₁₄ l₁₅))))))))))))))))
+        alloc1 ! (λ l₀. alloc1 ! (λ l₁. alloc1 ! (λ l₂. alloc1 ! (λ l₃. alloc1 ! (λ l₄. alloc1 ! (λ l₅. alloc1 ! (λ l₆. alloc1 ! (λ l₇. alloc1 ! (λ l₈. alloc1 ! (λ l₉. alloc1 ! (λ l₁₀. alloc1 ! (λ l₁₁. alloc1 ! (λ l₁₂. alloc1 ! (λ l₁₃. alloc1 ! (λ l₁₄. alloc1 ! (λ l₁₅. alloc0 ! $ dies-apart ! 16 $ params1 ! $
+        pass1 ! (init ! 15 refl (tt, (tt, (record { fits = room₀ .0 }, tt)))) $ pass1 ! (init ! 14 refl (tt, record { fits = gi .1 })) $ pass1 ! (init ! 13 refl (typedPi p gp)) $ pass0 ! $
+        move ! (18 ∷ []) $ fsplit ! $
+        move ! (19 ∷ []) $ split ! $
+        keep ! (2 ∷ 0 ∷ 5 ∷ 6 ∷ 7 ∷ 8 ∷ 9 ∷ 10 ∷ 11 ∷ 12 ∷ 13 ∷ 14 ∷ 15 ∷ 16 ∷ 17 ∷ 18 ∷ 19 ∷ 20 ∷ 4 ∷ []) $ part-1 l₀ l₁ l₂ l₃ l₄ l₅ l₆ l₇ l₈ l₉ l₁₀ l₁₁ l₁₂ l₁₃ l₁₄ l₁₅))))))))))))))))
 
 module _ {M : Type 1} (𝓤 : URA M) (H : Heap 𝓤) (A : Atoms 𝓤) (W : Given 𝓤 H A) (mem : Memory → SProp 𝓤) (run : Routine → Fun 𝓤) (𝓣 : Tables 𝓤 H) (known-place-of : Triple 𝓤 (𝓣 .C #place-of) (Of-place-of 𝓤 H A mem run)) (known-ear-of : Triple 𝓤 (𝓣 .C #ear-of) (Of-ear-of 𝓤 H A mem run)) where
   f-walks : Walks 𝓤 H A this.ended stayed (WpFn 𝓤 H (𝓣 .C) (𝓣 .Λ) code.function) (this.clauses 𝓤 H A mem run)

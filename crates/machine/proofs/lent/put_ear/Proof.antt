@@ -18,9 +18,9 @@ use prog.Wp.{Heap, Env, Calls, Loops, WpFn, Tables}
 use ghost.Atoms.{Atoms}
 use contract.Monad.{Fun, fact}
 use contract.Running.{givenOf, tables, tablesOf}
-use types.Kit.{Given, ‵, _⊛_, ⋆, runs, atRet, Sq, _$_, _∵_, !, qed, by, move, keep, drop, rewrite, split, join, fsplit, fjoin, feqI, suffices, frame, done}
+use types.Kit.{Given, Item, ‵, _⊛_, ⋆, runs, atRet, Sq, _$_, _∵_, !, qed, by, move, keep, drop, rewrite, split, join, fsplit, fjoin, feqI, suffices, frame, done}
 use types.Part.{whole, sub, look-in, store-in}
-use types.Run.{look, init, store, forget, stop, hop, fld, from, load as reads, lit, unit-lit, addr, of-opd, bin, and-then, no-more, assigns, land, returns, enter, alloc1, alloc0, params1, pass1, pass0, free1, free0}
+use types.Run.{look, init, store, stop, hop, fld, from, load as reads, lit, unit-lit, addr, of-opd, bin, and-then, no-more, assigns, land, returns, enter, alloc1, alloc0, params1, pass1, pass0}
 use sound.WpLaws.{FmC, fmOf, WpFn-mono}
 use denote.RattleType.{owns}
 use denote.Laws.{Is, Makes, shows}
@@ -44,6 +44,7 @@ use lib.ListN.{getD}
 use Rattle.choice.specs.Choice.{if_then_else_}
 use Rattle.model.specs.Records.{freshLearner, unheard}
 use Rattle.machine.specs.Roles.{placeOf, earOf, putEar}
+use Rattle.machine.proofs.Frees.{full, dies-apart, frees-all}
 use Rattle.machine.proofs.Relending.{Slice, listAt}
 use Rattle.machine.proofs.CallsByValue.{calls-value}
 use Rattle.machine.proofs.WalkedLoops.{fits-place}
@@ -205,64 +206,66 @@ module _ {M : Type 1} (𝓤 : URA M) (H : Heap 𝓤) (A : Atoms 𝓤) (W : Given
       abbrev En : Env 𝓤 H
       En = (tyUnit, l₀) ∷ ((sliceTy (tyRef (named 0) mut (pointee (Le.the-row .written)))), l₁) ∷ (word, l₂) ∷ (Pi′.mir, l₃) ∷ (Ea′.mir, l₄) ∷ (word, l₅) ∷ (He′.mir, l₆) ∷ (He′.mir, l₇) ∷ (word, l₈) ∷ (tyPtr, l₉) ∷ (word, l₁₀) ∷ (tyPtr, l₁₁) ∷ (tyPtr, l₁₂) ∷ (He′.mir, l₁₃) ∷ (tyPtr, l₁₄) ∷ (tyPtr, l₁₅) ∷ (tyPtr, l₁₆) ∷ (tyPtr, l₁₇) ∷ (tyPtr, l₁₈) ∷ []
 
+      abbrev Dies : Item 𝓤
+      Dies = ‵ (fdies tyPtr l₁₈) ⊛ ‵ (fdies tyPtr l₁₇) ⊛ ‵ (fdies tyPtr l₁₆) ⊛ ‵ (fdies tyPtr l₁₅) ⊛ ‵ (fdies tyPtr l₁₄) ⊛ ‵ (fdies He′.mir l₁₃) ⊛ ‵ (fdies tyPtr l₁₂) ⊛ ‵ (fdies tyPtr l₁₁) ⊛ ‵ (fdies word l₁₀) ⊛ ‵ (fdies tyPtr l₉) ⊛ ‵ (fdies word l₈) ⊛ ‵ (fdies He′.mir l₇) ⊛ ‵ (fdies He′.mir l₆) ⊛ ‵ (fdies word l₅) ⊛ ‵ (fdies Ea′.mir l₄) ⊛ ‵ (fdies Pi′.mir l₃) ⊛ ‵ (fdies word l₂) ⊛ ‵ (fdies (sliceTy (tyRef (named 0) mut (pointee (Le.the-row .written)))) l₁) ⊛ ‵ (fdies tyUnit l₀) ⊛ ‵ ftrue
+
       part-1 : Sq W (‵ (Slice Le.the-row κ₀ γ₀ b₀ o₀ n₀ t) ∷ ‵ (flft κ₀ q₀)
-          ∷ ‵ (froom tyPtr l₁₈ 0) ∷ ‵ (fdies tyPtr l₁₈) ∷ ‵ (froom tyPtr l₁₇ 0) ∷ ‵ (fdies tyPtr l₁₇) ∷ ‵ (froom tyPtr l₁₆ 0) ∷ ‵ (fdies tyPtr l₁₆) ∷ ‵ (froom tyPtr l₁₅ 0) ∷ ‵ (fdies tyPtr l₁₅) ∷ ‵ (froom tyPtr l₁₄ 0) ∷ ‵ (fdies tyPtr l₁₄) ∷ ‵ (froom He′.mir l₁₃ 0) ∷ ‵ (fdies He′.mir l₁₃) ∷ ‵ (froom tyPtr l₁₂ 0) ∷ ‵ (fdies tyPtr l₁₂) ∷ ‵ (froom tyPtr l₁₁ 0) ∷ ‵ (fdies tyPtr l₁₁) ∷ ‵ (froom word l₁₀ 0) ∷ ‵ (fdies word l₁₀) ∷ ‵ (froom tyPtr l₉ 0) ∷ ‵ (fdies tyPtr l₉) ∷ ‵ (froom word l₈ 0) ∷ ‵ (fdies word l₈) ∷ ‵ (froom He′.mir l₇ 0) ∷ ‵ (fdies He′.mir l₇) ∷ ‵ (froom He′.mir l₆ 0) ∷ ‵ (fdies He′.mir l₆) ∷ ‵ (froom word l₅ 0) ∷ ‵ (fdies word l₅) ∷ ‵ (fat fullShare Ea′.mir l₄ 0 (valEa x)) ∷ ‵ (fdies Ea′.mir l₄) ∷ ‵ (fat fullShare Pi′.mir l₃ 0 (valPi p)) ∷ ‵ (fdies Pi′.mir l₃) ∷ ‵ (fat fullShare word l₂ 0 (vint w64 i)) ∷ ‵ (fdies word l₂) ∷ ‵ (fat fullShare (sliceTy (tyRef (named 0) mut (pointee (Le.the-row .written)))) l₁ 0 s₀) ∷ ‵ (fdies (sliceTy (tyRef (named 0) mut (pointee (Le.the-row .written)))) l₁) ∷ ‵ (froom tyUnit l₀ 0) ∷ ‵ (fdies tyUnit l₀) ∷ []) (runs C Λ En pieces.t-1 (atRet En Post))
+          ∷ ‵ (froom tyPtr l₁₈ 0) ∷ ‵ (froom tyPtr l₁₇ 0) ∷ ‵ (froom tyPtr l₁₆ 0) ∷ ‵ (froom tyPtr l₁₅ 0) ∷ ‵ (froom tyPtr l₁₄ 0) ∷ ‵ (froom He′.mir l₁₃ 0) ∷ ‵ (froom tyPtr l₁₂ 0) ∷ ‵ (froom tyPtr l₁₁ 0) ∷ ‵ (froom word l₁₀ 0) ∷ ‵ (froom tyPtr l₉ 0) ∷ ‵ (froom word l₈ 0) ∷ ‵ (froom He′.mir l₇ 0) ∷ ‵ (froom He′.mir l₆ 0) ∷ ‵ (froom word l₅ 0) ∷ ‵ (fat fullShare Ea′.mir l₄ 0 (valEa x)) ∷ ‵ (fat fullShare Pi′.mir l₃ 0 (valPi p)) ∷ ‵ (fat fullShare word l₂ 0 (vint w64 i)) ∷ ‵ (fat fullShare (sliceTy (tyRef (named 0) mut (pointee (Le.the-row .written)))) l₁ 0 s₀) ∷ ‵ (froom tyUnit l₀ 0) ∷ Dies ∷ []) (runs C Λ En pieces.t-1 (atRet En Post))
       part-1 =
           calls-value ! fm (place-of.signature .params) usize (place-of.ended .kept) (place-of.clauses 𝓤 H A mem run) known-place-of (valsPi, tt) (makesPi, tt) (vint w64) (uint-tells w64)
-          (p, tt) (gp, tt) tt (id⊢ 𝓤 (emp 𝓤)) pl (λ r e′. id⊢ 𝓤 (fact 𝓤 (r ≡ pl))) (and-then ! (reads ! (from ! (stop !)) (look ! 33 refl)) (no-more !)) (λ g5.
-          land ! (from ! (stop !)) (init ! 28 refl (tt, record { fits = g5 .1 })) $
+          (p, tt) (gp, tt) tt (id⊢ 𝓤 (emp 𝓤)) pl (λ r e′. id⊢ 𝓤 (fact 𝓤 (r ≡ pl))) (and-then ! (reads ! (from ! (stop !)) (look ! 18 refl)) (no-more !)) (λ g5.
+          land ! (from ! (stop !)) (init ! 15 refl (tt, record { fits = g5 .1 })) $
           fsplit ! $ move ! (1 ∷ []) $ fsplit ! $ move ! (0 ∷ 1 ∷ 3 ∷ []) $ opens-slice ! tt Le.the-row t b₀ o₀ $
           elem-out ! Le.the-row (Is Le.the-row) (shows 𝓤 H A Le.the-row) valsLe (LL.tells Le.the-type Le′.the-laws) fullShare t i freshLearner b₀ o₀ in-i (λ g.
-          assigns ! (bin ! (reads ! (from ! (stop !)) (look ! 39 refl)) (lit ! tt) (record { fits = fits-place 208 i (length t) in-i (room₀ .1) })) (from ! (stop !)) (init ! 27 refl (tt, record { fits = fits-place 208 i (length t) in-i (room₀ .1) })) $
-          assigns ! (bin ! (reads ! (from ! (fld ! refl (stop !))) (look-in ! 41 (sub ! 0 refl (whole !)))) (reads ! (from ! (stop !)) (look ! 27 refl)) tt) (from ! (stop !)) (init ! 25 refl (tt, tt)) $
-          rewrite ! 25 (λ (y : ℕ). ‵ (fat fullShare tyPtr l₉ 0 (vptr b₀ y))) (sym (place-is 208 o₀ i)) refl $
-          assigns ! (bin ! (reads ! (from ! (stop !)) (look ! 33 refl)) (lit ! tt) (record { fits = fits-inner pl (place-below (p .0)) })) (from ! (stop !)) (init ! 23 refl (tt, record { fits = fits-inner pl (place-below (p .0)) })) $
-          assigns ! (addr ! (from ! (hop ! (look ! 25 refl) (fld ! refl (stop !))))) (from ! (stop !)) (init ! 21 refl (tt, tt)) $
-          assigns ! (bin ! (reads ! (from ! (stop !)) (look ! 21 refl)) (reads ! (from ! (stop !)) (look ! 23 refl)) tt) (from ! (stop !)) (init ! 19 refl (tt, tt)) $
-          rewrite ! 19 (λ (y : ℕ). ‵ (fat fullShare tyPtr l₁₂ 0 (vptr b₀ y))) (sym (place-is 24 (place 208 o₀ i + 16) pl)) refl $
-          assigns ! (of-opd ! (reads ! (from ! (hop ! (look ! 19 refl) (stop !))) (look-in ! 0 (item ! (machined (elem .heard)) pl (valHe unheard) (subst (λ (n : ℕ). pl < n) (sym (eight-of elem g)) (place-below (p .0))) (eight-of elem g) (sub ! 2 refl (behind ! {τ = Le′.mir} {v = valLe elem})))))) (from ! (stop !))
-          (init ! 17 refl (subst (λ (v : Val). Holds (hasTy He′.mir v) × WT v) (sym (value-at (elem .heard) pl)) (typedHe h₀ (one-heard elem g pl (place-below (p .0)))))) $
-          rewrite ! 17 (λ (v : Val). ‵ (fat fullShare He′.mir l₁₃ 0 v)) (value-at (elem .heard) pl) refl $
-          assigns ! (of-opd ! (reads ! (from ! (stop !)) (look ! 17 refl))) (from ! (stop !)) (init ! 31 refl (typedHe h₀ (one-heard elem g pl (place-below (p .0))))) $
+          assigns ! (bin ! (reads ! (from ! (stop !)) (look ! 23 refl)) (lit ! tt) (record { fits = fits-place 208 i (length t) in-i (room₀ .1) })) (from ! (stop !)) (init ! 17 refl (tt, record { fits = fits-place 208 i (length t) in-i (room₀ .1) })) $
+          assigns ! (bin ! (reads ! (from ! (fld ! refl (stop !))) (look-in ! 24 (sub ! 0 refl (whole !)))) (reads ! (from ! (stop !)) (look ! 17 refl)) tt) (from ! (stop !)) (init ! 16 refl (tt, tt)) $
+          rewrite ! 16 (λ (y : ℕ). ‵ (fat fullShare tyPtr l₉ 0 (vptr b₀ y))) (sym (place-is 208 o₀ i)) refl $
+          assigns ! (bin ! (reads ! (from ! (stop !)) (look ! 20 refl)) (lit ! tt) (record { fits = fits-inner pl (place-below (p .0)) })) (from ! (stop !)) (init ! 15 refl (tt, record { fits = fits-inner pl (place-below (p .0)) })) $
+          assigns ! (addr ! (from ! (hop ! (look ! 16 refl) (fld ! refl (stop !))))) (from ! (stop !)) (init ! 14 refl (tt, tt)) $
+          assigns ! (bin ! (reads ! (from ! (stop !)) (look ! 14 refl)) (reads ! (from ! (stop !)) (look ! 15 refl)) tt) (from ! (stop !)) (init ! 13 refl (tt, tt)) $
+          rewrite ! 13 (λ (y : ℕ). ‵ (fat fullShare tyPtr l₁₂ 0 (vptr b₀ y))) (sym (place-is 24 (place 208 o₀ i + 16) pl)) refl $
+          assigns ! (of-opd ! (reads ! (from ! (hop ! (look ! 13 refl) (stop !))) (look-in ! 0 (item ! (machined (elem .heard)) pl (valHe unheard) (subst (λ (n : ℕ). pl < n) (sym (eight-of elem g)) (place-below (p .0))) (eight-of elem g) (sub ! 2 refl (behind ! {τ = Le′.mir} {v = valLe elem})))))) (from ! (stop !))
+          (init ! 12 refl (subst (λ (v : Val). Holds (hasTy He′.mir v) × WT v) (sym (value-at (elem .heard) pl)) (typedHe h₀ (one-heard elem g pl (place-below (p .0)))))) $
+          rewrite ! 12 (λ (v : Val). ‵ (fat fullShare He′.mir l₁₃ 0 v)) (value-at (elem .heard) pl) refl $
+          assigns ! (of-opd ! (reads ! (from ! (stop !)) (look ! 12 refl))) (from ! (stop !)) (init ! 19 refl (typedHe h₀ (one-heard elem g pl (place-below (p .0))))) $
           calls-value ! fm (held-in.signature .params) He.the-row (held-in.ended .kept) (held-in.clauses 𝓤 H A mem run) known-held-in (valsPi, (valsEa, (valsHe, tt))) (makesPi, (makesEa, (makesHe, tt))) valHe (LL.tells He.the-type He′.the-laws)
-          (p, (x, (h₀, tt))) (gp, (gx, ((one-heard elem g pl (place-below (p .0))), tt))) tt (id⊢ 𝓤 (emp 𝓤)) h₁ (λ r e′. id⊢ 𝓤 (fact 𝓤 (r ≡ h₁))) (and-then ! (reads ! (from ! (stop !)) (look ! 38 refl)) (and-then ! (reads ! (from ! (stop !)) (look ! 36 refl)) (and-then ! (reads ! (from ! (stop !)) (look ! 32 refl)) (no-more !)))) (λ g7.
-          land ! (from ! (stop !)) (init ! 29 refl (typedHe h₁ g7)) $
-          assigns ! (bin ! (reads ! (from ! (stop !)) (look ! 39 refl)) (lit ! tt) (record { fits = fits-place 208 i (length t) in-i (room₀ .1) })) (from ! (stop !)) (store ! 27 refl (tt, record { fits = fits-place 208 i (length t) in-i (room₀ .1) })) $
-          assigns ! (bin ! (reads ! (from ! (fld ! refl (stop !))) (look-in ! 41 (sub ! 0 refl (whole !)))) (reads ! (from ! (stop !)) (look ! 27 refl)) tt) (from ! (stop !)) (init ! 15 refl (tt, tt)) $
-          rewrite ! 15 (λ (y : ℕ). ‵ (fat fullShare tyPtr l₁₄ 0 (vptr b₀ y))) (sym (place-is 208 o₀ i)) refl $
-          assigns ! (of-opd ! (reads ! (from ! (fld ! refl (stop !))) (look-in ! 35 (sub ! 0 refl (whole !))))) (from ! (hop ! (look ! 15 refl) (fld ! refl (stop !))))
+          (p, (x, (h₀, tt))) (gp, (gx, ((one-heard elem g pl (place-below (p .0))), tt))) tt (id⊢ 𝓤 (emp 𝓤)) h₁ (λ r e′. id⊢ 𝓤 (fact 𝓤 (r ≡ h₁))) (and-then ! (reads ! (from ! (stop !)) (look ! 23 refl)) (and-then ! (reads ! (from ! (stop !)) (look ! 22 refl)) (and-then ! (reads ! (from ! (stop !)) (look ! 20 refl)) (no-more !)))) (λ g7.
+          land ! (from ! (stop !)) (init ! 18 refl (typedHe h₁ g7)) $
+          assigns ! (bin ! (reads ! (from ! (stop !)) (look ! 23 refl)) (lit ! tt) (record { fits = fits-place 208 i (length t) in-i (room₀ .1) })) (from ! (stop !)) (store ! 17 refl (tt, record { fits = fits-place 208 i (length t) in-i (room₀ .1) })) $
+          assigns ! (bin ! (reads ! (from ! (fld ! refl (stop !))) (look-in ! 24 (sub ! 0 refl (whole !)))) (reads ! (from ! (stop !)) (look ! 17 refl)) tt) (from ! (stop !)) (init ! 11 refl (tt, tt)) $
+          rewrite ! 11 (λ (y : ℕ). ‵ (fat fullShare tyPtr l₁₄ 0 (vptr b₀ y))) (sym (place-is 208 o₀ i)) refl $
+          assigns ! (of-opd ! (reads ! (from ! (fld ! refl (stop !))) (look-in ! 21 (sub ! 0 refl (whole !))))) (from ! (hop ! (look ! 11 refl) (fld ! refl (stop !))))
           (store-in ! 0 (sub ! 0 refl (behind ! {τ = Le′.mir} {v = valLe elem})) (tt, tt)) $
-          assigns ! (bin ! (reads ! (from ! (stop !)) (look ! 39 refl)) (lit ! tt) (record { fits = fits-place 208 i (length t) in-i (room₀ .1) })) (from ! (stop !)) (store ! 23 refl (tt, record { fits = fits-place 208 i (length t) in-i (room₀ .1) })) $
-          assigns ! (bin ! (reads ! (from ! (fld ! refl (stop !))) (look-in ! 41 (sub ! 0 refl (whole !)))) (reads ! (from ! (stop !)) (look ! 23 refl)) tt) (from ! (stop !)) (init ! 13 refl (tt, tt)) $
-          rewrite ! 13 (λ (y : ℕ). ‵ (fat fullShare tyPtr l₁₅ 0 (vptr b₀ y))) (sym (place-is 208 o₀ i)) refl $
-          assigns ! (of-opd ! (reads ! (from ! (fld ! refl (stop !))) (look-in ! 35 (sub ! 1 refl (whole !))))) (from ! (hop ! (look ! 13 refl) (fld ! refl (stop !))))
+          assigns ! (bin ! (reads ! (from ! (stop !)) (look ! 23 refl)) (lit ! tt) (record { fits = fits-place 208 i (length t) in-i (room₀ .1) })) (from ! (stop !)) (store ! 15 refl (tt, record { fits = fits-place 208 i (length t) in-i (room₀ .1) })) $
+          assigns ! (bin ! (reads ! (from ! (fld ! refl (stop !))) (look-in ! 24 (sub ! 0 refl (whole !)))) (reads ! (from ! (stop !)) (look ! 15 refl)) tt) (from ! (stop !)) (init ! 10 refl (tt, tt)) $
+          rewrite ! 10 (λ (y : ℕ). ‵ (fat fullShare tyPtr l₁₅ 0 (vptr b₀ y))) (sym (place-is 208 o₀ i)) refl $
+          assigns ! (of-opd ! (reads ! (from ! (fld ! refl (stop !))) (look-in ! 21 (sub ! 1 refl (whole !))))) (from ! (hop ! (look ! 10 refl) (fld ! refl (stop !))))
           (store-in ! 0 (sub ! 1 refl (behind ! {τ = Le′.mir} {v = shaped (x .alive) (elem .learnt) (machined (elem .heard))})) (typedSc (x .learnt) (ear-learnt x gx))) $
-          assigns ! (bin ! (reads ! (from ! (stop !)) (look ! 39 refl)) (lit ! tt) (record { fits = fits-place 208 i (length t) in-i (room₀ .1) })) (from ! (stop !)) (store ! 27 refl (tt, record { fits = fits-place 208 i (length t) in-i (room₀ .1) })) $
-          assigns ! (bin ! (reads ! (from ! (fld ! refl (stop !))) (look-in ! 41 (sub ! 0 refl (whole !)))) (reads ! (from ! (stop !)) (look ! 27 refl)) tt) (from ! (stop !)) (init ! 11 refl (tt, tt)) $
-          rewrite ! 11 (λ (y : ℕ). ‵ (fat fullShare tyPtr l₁₆ 0 (vptr b₀ y))) (sym (place-is 208 o₀ i)) refl $
-          assigns ! (bin ! (reads ! (from ! (stop !)) (look ! 33 refl)) (lit ! tt) (record { fits = fits-inner pl (place-below (p .0)) })) (from ! (stop !)) (store ! 23 refl (tt, record { fits = fits-inner pl (place-below (p .0)) })) $
-          assigns ! (addr ! (from ! (hop ! (look ! 11 refl) (fld ! refl (stop !))))) (from ! (stop !)) (init ! 9 refl (tt, tt)) $
-          assigns ! (bin ! (reads ! (from ! (stop !)) (look ! 9 refl)) (reads ! (from ! (stop !)) (look ! 23 refl)) tt) (from ! (stop !)) (init ! 7 refl (tt, tt)) $
+          assigns ! (bin ! (reads ! (from ! (stop !)) (look ! 23 refl)) (lit ! tt) (record { fits = fits-place 208 i (length t) in-i (room₀ .1) })) (from ! (stop !)) (store ! 17 refl (tt, record { fits = fits-place 208 i (length t) in-i (room₀ .1) })) $
+          assigns ! (bin ! (reads ! (from ! (fld ! refl (stop !))) (look-in ! 24 (sub ! 0 refl (whole !)))) (reads ! (from ! (stop !)) (look ! 17 refl)) tt) (from ! (stop !)) (init ! 9 refl (tt, tt)) $
+          rewrite ! 9 (λ (y : ℕ). ‵ (fat fullShare tyPtr l₁₆ 0 (vptr b₀ y))) (sym (place-is 208 o₀ i)) refl $
+          assigns ! (bin ! (reads ! (from ! (stop !)) (look ! 20 refl)) (lit ! tt) (record { fits = fits-inner pl (place-below (p .0)) })) (from ! (stop !)) (store ! 15 refl (tt, record { fits = fits-inner pl (place-below (p .0)) })) $
+          assigns ! (addr ! (from ! (hop ! (look ! 9 refl) (fld ! refl (stop !))))) (from ! (stop !)) (init ! 8 refl (tt, tt)) $
+          assigns ! (bin ! (reads ! (from ! (stop !)) (look ! 8 refl)) (reads ! (from ! (stop !)) (look ! 15 refl)) tt) (from ! (stop !)) (init ! 7 refl (tt, tt)) $
           rewrite ! 7 (λ (y : ℕ). ‵ (fat fullShare tyPtr l₁₈ 0 (vptr b₀ y))) (sym (place-is 24 (place 208 o₀ i + 16) pl)) refl $
-          assigns ! (of-opd ! (reads ! (from ! (stop !)) (look ! 29 refl))) (from ! (hop ! (look ! 7 refl) (stop !)))
+          assigns ! (of-opd ! (reads ! (from ! (stop !)) (look ! 18 refl))) (from ! (hop ! (look ! 7 refl) (stop !)))
           (store-in ! 0 (item ! (machined (elem .heard)) pl (valHe unheard) (subst (λ (n : ℕ). pl < n) (sym (eight-of elem g)) (place-below (p .0))) (eight-of elem g) (sub ! 2 refl (behind ! {τ = Le′.mir} {v = shaped (x .alive) (x .learnt) (machined (elem .heard))}))) (typedHe h₁ g7)) $
           rewrite ! 0 (λ (us : List Val). ‵ (fat fullShare (rawTy Le′.mir) b₀ (place 208 o₀ i) (shaped (x .alive) (x .learnt) us))) (machined-set (elem .heard) pl h₁) refl $
           move ! (1 ∷ []) $ drop ! $ owned ! Le.the-row (Is Le.the-row) (LL.makes Le.the-type Le′.the-plain 𝓤 H A) elem′ _ (is-ear elem g pl x gx h₁ g7) $ move ! (1 ∷ 0 ∷ []) $ elem-put ! Le.the-row fullShare t i elem′ (valsLe elem′) b₀ o₀ in-i $
           closes-slice ! tt Le.the-row t t′ (length-set t i elem′) b₀ o₀ $ move ! (3 ∷ []) $ drop ! $ fjoin ! $
           pureI ! (at-slice Le.the-row (listAt Le.the-row b₀ o₀ t′ γ₀) (s₀ ∷ [])) (tt, (tt, tt)) (ap (λ (n : ℕ). sliceVal (b₀, o₀) n ∷ []) (sym (length-set t i elem′)), subst (Room Le.the-row) (sym (length-set t i elem′)) room₀) $ fjoin ! $
-          assigns ! (of-opd ! (unit-lit !)) (from ! (stop !)) (init ! 38 refl (tt, tt)) $
-          returns ! (look ! 38 refl) $ forget ! 2 refl $ forget ! 4 refl $ forget ! 6 refl $ forget ! 8 refl $ forget ! 10 refl $ forget ! 12 refl $ forget ! 14 refl $ forget ! 16 refl $ forget ! 18 refl $ forget ! 20 refl $ forget ! 22 refl $ forget ! 24 refl $ forget ! 26 refl $ forget ! 28 refl $ forget ! 30 refl $ forget ! 32 refl $ forget ! 34 refl $ forget ! 36 refl $ forget ! 38 refl $
-          move ! (38 ∷ 39 ∷ []) $ free1 ! $ move ! (36 ∷ 37 ∷ []) $ free1 ! $ move ! (34 ∷ 35 ∷ []) $ free1 ! $ move ! (32 ∷ 33 ∷ []) $ free1 ! $ move ! (30 ∷ 31 ∷ []) $ free1 ! $ move ! (28 ∷ 29 ∷ []) $ free1 ! $ move ! (26 ∷ 27 ∷ []) $ free1 ! $ move ! (24 ∷ 25 ∷ []) $ free1 ! $ move ! (22 ∷ 23 ∷ []) $ free1 ! $ move ! (20 ∷ 21 ∷ []) $ free1 ! $ move ! (18 ∷ 19 ∷ []) $ free1 ! $ move ! (16 ∷ 17 ∷ []) $ free1 ! $ move ! (14 ∷ 15 ∷ []) $ free1 ! $ move ! (12 ∷ 13 ∷ []) $ free1 ! $ move ! (10 ∷ 11 ∷ []) $ free1 ! $ move ! (8 ∷ 9 ∷ []) $ free1 ! $ move ! (6 ∷ 7 ∷ []) $ free1 ! $ move ! (4 ∷ 5 ∷ []) $ free1 ! $ move ! (2 ∷ 3 ∷ []) $ free1 ! $ free0 ! $
+          assigns ! (of-opd ! (unit-lit !)) (from ! (stop !)) (init ! 20 refl (tt, tt)) $
+          returns ! (look ! 20 refl) $ frees-all ! 2 (full _ _ _ ∷ full _ _ _ ∷ full _ _ _ ∷ full _ _ _ ∷ full _ _ _ ∷ full _ _ _ ∷ full _ _ _ ∷ full _ _ _ ∷ full _ _ _ ∷ full _ _ _ ∷ full _ _ _ ∷ full _ _ _ ∷ full _ _ _ ∷ full _ _ _ ∷ full _ _ _ ∷ full _ _ _ ∷ full _ _ _ ∷ full _ _ _ ∷ full _ _ _ ∷ []) refl refl $
           keep ! (0 ∷ 1 ∷ []) $ by ! (exits (eight-heard elem g) (length-set t i elem′)))))
 
     walk : ent 𝓤 (onEntry 𝓤 H A this.signature (κ₀, tt) (q₀, tt) (listAt Le.the-row b₀ o₀ t γ₀, (i, (p, (x, tt)))) at) (WpFn 𝓤 H C Λ code.function (s₀ ∷ vint w64 i ∷ valPi p ∷ valEa x ∷ []) Post)
     walk =
         qed W ((‵ (flft κ₀ q₀) ⊛ ‵ ftrue) ∷ ‵ (owns (MutSlice (named 0) κ₀ Le.the-row ∷ usize ∷ Pi.the-row ∷ Ea.the-row ∷ []) (listAt Le.the-row b₀ o₀ t γ₀, (i, (p, (x, tt)))) at) ∷ []) ∵ enter ! C Λ code.function (s₀ ∷ vint w64 i ∷ valPi p ∷ valEa x ∷ []) _ $
-        alloc1 ! (λ l₀. alloc1 ! (λ l₁. alloc1 ! (λ l₂. alloc1 ! (λ l₃. alloc1 ! (λ l₄. alloc1 ! (λ l₅. alloc1 ! (λ l₆. alloc1 ! (λ l₇. alloc1 ! (λ l₈. alloc1 ! (λ l₉. alloc1 ! (λ l₁₀. alloc1 ! (λ l₁₁. alloc1 ! (λ l₁₂. alloc1 ! (λ l₁₃. alloc1 ! (λ l₁₄. alloc1 ! (λ l₁₅. alloc1 ! (λ l₁₆. alloc1 ! (λ l₁₇. alloc1 ! (λ l₁₈. alloc0 ! $ params1 ! $
-        pass1 ! (init ! 34 refl (tt, (tt, (record { fits = room₀ .0 }, tt)))) $ pass1 ! (init ! 32 refl (tt, record { fits = gi .1 })) $ pass1 ! (init ! 30 refl (typedPi p gp)) $ pass1 ! (init ! 28 refl (typedEa x gx)) $ pass0 ! $
-        move ! (39 ∷ []) $ fsplit ! $
-        move ! (40 ∷ []) $ split ! $
-        keep ! (2 ∷ 0 ∷ 4 ∷ 5 ∷ 6 ∷ 7 ∷ 8 ∷ 9 ∷ 10 ∷ 11 ∷ 12 ∷ 13 ∷ 14 ∷ 15 ∷ 16 ∷ 17 ∷ 18 ∷ 19 ∷ 20 ∷ 21 ∷ 22 ∷ 23 ∷ 24 ∷ 25 ∷ 26 ∷ 27 ∷ 28 ∷ 29 ∷ 30 ∷ 31 ∷ 32 ∷ 33 ∷ 34 ∷ 35 ∷ 36 ∷ 37 ∷ 38 ∷ 39 ∷ 40 ∷ 41 ∷ []) $ part-1 l₀ l₁ l₂ l₃ l₄ l₅ l₆ l₇ l₈ l₉ l₁₀ l₁₁ l₁₂ l₁₃ l₁₄ l₁₅ l₁₆ l₁₇ l₁₈)))))))))))))))))))
+        alloc1 ! (λ l₀. alloc1 ! (λ l₁. alloc1 ! (λ l₂. alloc1 ! (λ l₃. alloc1 ! (λ l₄. alloc1 ! (λ l₅. alloc1 ! (λ l₆. alloc1 ! (λ l₇. alloc1 ! (λ l₈. alloc1 ! (λ l₉. alloc1 ! (λ l₁₀. alloc1 ! (λ l₁₁. alloc1 ! (λ l₁₂. alloc1 ! (λ l₁₃. alloc1 ! (λ l₁₄. alloc1 ! (λ l₁₅. alloc1 ! (λ l₁₆. alloc1 ! (λ l₁₇. alloc1 ! (λ l₁₈. alloc0 ! $ dies-apart ! 19 $ params1 ! $
+        pass1 ! (init ! 18 refl (tt, (tt, (record { fits = room₀ .0 }, tt)))) $ pass1 ! (init ! 17 refl (tt, record { fits = gi .1 })) $ pass1 ! (init ! 16 refl (typedPi p gp)) $ pass1 ! (init ! 15 refl (typedEa x gx)) $ pass0 ! $
+        move ! (21 ∷ []) $ fsplit ! $
+        move ! (22 ∷ []) $ split ! $
+        keep ! (2 ∷ 0 ∷ 5 ∷ 6 ∷ 7 ∷ 8 ∷ 9 ∷ 10 ∷ 11 ∷ 12 ∷ 13 ∷ 14 ∷ 15 ∷ 16 ∷ 17 ∷ 18 ∷ 19 ∷ 20 ∷ 21 ∷ 22 ∷ 23 ∷ 4 ∷ []) $ part-1 l₀ l₁ l₂ l₃ l₄ l₅ l₆ l₇ l₈ l₉ l₁₀ l₁₁ l₁₂ l₁₃ l₁₄ l₁₅ l₁₆ l₁₇ l₁₈)))))))))))))))))))
 
 module _ {M : Type 1} (𝓤 : URA M) (H : Heap 𝓤) (A : Atoms 𝓤) (W : Given 𝓤 H A) (mem : Memory → SProp 𝓤) (run : Routine → Fun 𝓤) (𝓣 : Tables 𝓤 H) (known-place-of : Triple 𝓤 (𝓣 .C #place-of) (Of-place-of 𝓤 H A mem run)) (known-held-in : Triple 𝓤 (𝓣 .C #held-in) (Of-held-in 𝓤 H A mem run)) where
   f-walks : Walks 𝓤 H A this.ended stayed (WpFn 𝓤 H (𝓣 .C) (𝓣 .Λ) code.function) (this.clauses 𝓤 H A mem run)

@@ -20,7 +20,7 @@ use contract.Monad.{Fun, factI, fact-mono}
 use contract.Running.{givenOf, tables, tablesOf}
 use types.Kit.{Given, Item, ‵, _⊛_, ⋆, runs, anyQ, atRet, Sq, _$_, _∵_, !, qed, by, move, keep, split, join, fsplit, fjoin, feqI, suffices, frame, done}
 use types.Part.{agg, whole, sub, look-in}
-use types.Run.{look, init, store, forget, stop, hop, fld, from, load as reads, lit, unit-lit, addr, of-opd, bin, and-then, no-more, assigns, assigns-last, land, first, blocks, returns, enter, alloc1, alloc0, params1, pass1, pass0, free1, free0, exec, Below, again, loops}
+use types.Run.{look, init, store, forget, stop, hop, fld, from, load as reads, lit, unit-lit, addr, of-opd, bin, and-then, no-more, assigns, assigns-last, land, first, blocks, returns, enter, alloc1, alloc0, params1, pass1, pass0, exec, Below, again, loops}
 use sound.WpLaws.{FmC, fmOf, WpFn-mono}
 use denote.RattleType.{owns}
 use denote.Laws.{Is, Makes}
@@ -40,6 +40,7 @@ use denote.Triple.Walked.{says, needs, Stays, stay-none, stay-none-slice, stay-s
 use denote.Exit.{yes}
 use Rattle.machine.specs.Stepping.{Left, stepOf, Fits}
 use Rattle.machine.specs.Running.{eventOf, noted, Ran, onward, ranTo, driven, Drives}
+use Rattle.machine.proofs.Frees.{full, bare, dies-apart, frees-all}
 use Rattle.machine.proofs.Relending.{Slice, listAt}
 use Rattle.machine.proofs.CallsWithSlices.{passed, lent, handed, calls}
 use Rattle.machine.proofs.LoopsOverSteps.{at-end, still-fit, event-there, answer-there, ran-none, ran-next}
@@ -201,6 +202,9 @@ module _ {M : Type 1} (𝓤 : URA M) (H : Heap 𝓤) (A : Atoms 𝓤) (W : Given
       abbrev En : Env 𝓤 H
       En = (tyUnit, l₀) ∷ (Sz′.mir, l₁) ∷ ((sliceTy (tyRef (named 0) mut (pointee (Pr.the-row .written)))), l₂) ∷ ((sliceTy (tyRef (named 1) mut (pointee (Ac.the-row .written)))), l₃) ∷ ((sliceTy (tyRef (named 2) mut (pointee (Le.the-row .written)))), l₄) ∷ ((sliceTy (tyRef (named 3) mut (pointee (Ms.the-row .written)))), l₅) ∷ ((sliceTy (tyRef (named 4) imm (pointee (u64 .written)))), l₆) ∷ ((sliceTy (tyRef (named 5) mut (pointee (u64 .written)))), l₇) ∷ (word, l₈) ∷ (word, l₉) ∷ (Ev′.mir, l₁₀) ∷ (An′.mir, l₁₁) ∷ (tyBool, l₁₂) ∷ ((tyRef erased mut (pointee (Pr.the-row .written))), l₁₃) ∷ ((sliceTy (tyRef erased mut (pointee (Pr.the-row .written)))), l₁₄) ∷ ((tyRef erased mut (pointee (Ac.the-row .written))), l₁₅) ∷ ((sliceTy (tyRef erased mut (pointee (Ac.the-row .written)))), l₁₆) ∷ ((tyRef erased mut (pointee (Le.the-row .written))), l₁₇) ∷ ((sliceTy (tyRef erased mut (pointee (Le.the-row .written)))), l₁₈) ∷ ((tyRef erased mut (pointee (Ms.the-row .written))), l₁₉) ∷ ((sliceTy (tyRef erased mut (pointee (Ms.the-row .written)))), l₂₀) ∷ (tyUnit, l₂₁) ∷ ((tyRef erased mut (pointee (u64 .written))), l₂₂) ∷ ((sliceTy (tyRef erased mut (pointee (u64 .written)))), l₂₃) ∷ []
 
+      abbrev Dies : Item 𝓤
+      Dies = ‵ (fdies (sliceTy (tyRef erased mut (pointee (u64 .written)))) l₂₃) ⊛ ‵ (fdies (tyRef erased mut (pointee (u64 .written))) l₂₂) ⊛ ‵ (fdies tyUnit l₂₁) ⊛ ‵ (fdies (sliceTy (tyRef erased mut (pointee (Ms.the-row .written)))) l₂₀) ⊛ ‵ (fdies (tyRef erased mut (pointee (Ms.the-row .written))) l₁₉) ⊛ ‵ (fdies (sliceTy (tyRef erased mut (pointee (Le.the-row .written)))) l₁₈) ⊛ ‵ (fdies (tyRef erased mut (pointee (Le.the-row .written))) l₁₇) ⊛ ‵ (fdies (sliceTy (tyRef erased mut (pointee (Ac.the-row .written)))) l₁₆) ⊛ ‵ (fdies (tyRef erased mut (pointee (Ac.the-row .written))) l₁₅) ⊛ ‵ (fdies (sliceTy (tyRef erased mut (pointee (Pr.the-row .written)))) l₁₄) ⊛ ‵ (fdies (tyRef erased mut (pointee (Pr.the-row .written))) l₁₃) ⊛ ‵ (fdies tyBool l₁₂) ⊛ ‵ (fdies An′.mir l₁₁) ⊛ ‵ (fdies Ev′.mir l₁₀) ⊛ ‵ (fdies word l₉) ⊛ ‵ (fdies word l₈) ⊛ ‵ (fdies (sliceTy (tyRef (named 5) mut (pointee (u64 .written)))) l₇) ⊛ ‵ (fdies (sliceTy (tyRef (named 4) imm (pointee (u64 .written)))) l₆) ⊛ ‵ (fdies (sliceTy (tyRef (named 3) mut (pointee (Ms.the-row .written)))) l₅) ⊛ ‵ (fdies (sliceTy (tyRef (named 2) mut (pointee (Le.the-row .written)))) l₄) ⊛ ‵ (fdies (sliceTy (tyRef (named 1) mut (pointee (Ac.the-row .written)))) l₃) ⊛ ‵ (fdies (sliceTy (tyRef (named 0) mut (pointee (Pr.the-row .written)))) l₂) ⊛ ‵ (fdies Sz′.mir l₁) ⊛ ‵ (fdies tyUnit l₀) ⊛ ‵ ftrue
+
       abbrev Long : Ran → Type 0
       Long r = (length (r .proposers) ≡ n₀) × ((length (r .acceptors) ≡ n₁) × ((length (r .learners) ≡ n₂) × ((length (r .slots) ≡ n₃) × ((length (r .log) ≡ n₅)))))
 
@@ -216,7 +220,7 @@ module _ {M : Type 1} (𝓤 : URA M) (H : Heap 𝓤) (A : Atoms 𝓤) (W : Given
 
       abbrev Cx : ℕ → Ran → List (Item 𝓤)
       Cx k r = ‵ (Slice Pr.the-row κ₀ γ₀ b₀ o₀ n₀ (r .proposers)) ∷ ‵ (flft κ₀ q₀) ∷ ‵ (Slice Ac.the-row κ₁ γ₁ b₁ o₁ n₁ (r .acceptors)) ∷ ‵ (flft κ₁ q₁) ∷ ‵ (Slice Le.the-row κ₂ γ₂ b₂ o₂ n₂ (r .learners)) ∷ ‵ (flft κ₂ q₂) ∷ ‵ (Slice Ms.the-row κ₃ γ₃ b₃ o₃ n₃ (r .slots)) ∷ ‵ (flft κ₃ q₃) ∷ ‵ (ShrSlice (named 4) κ₄ u64 .own (listAt u64 b₄ o₄ events γ₄) (s₄ ∷ [])) ∷ ‵ (flft κ₄ q₄) ∷ ‵ (Slice u64 κ₅ γ₅ b₅ o₅ n₅ (r .log)) ∷ ‵ (flft κ₅ q₅)
-          ∷ ‵ (froom (sliceTy (tyRef erased mut (pointee (u64 .written)))) l₂₃ 0) ∷ ‵ (fdies (sliceTy (tyRef erased mut (pointee (u64 .written)))) l₂₃) ∷ ‵ (froom (tyRef erased mut (pointee (u64 .written))) l₂₂ 0) ∷ ‵ (fdies (tyRef erased mut (pointee (u64 .written))) l₂₂) ∷ ‵ (froom tyUnit l₂₁ 0) ∷ ‵ (fdies tyUnit l₂₁) ∷ ‵ (froom (sliceTy (tyRef erased mut (pointee (Ms.the-row .written)))) l₂₀ 0) ∷ ‵ (fdies (sliceTy (tyRef erased mut (pointee (Ms.the-row .written)))) l₂₀) ∷ ‵ (froom (tyRef erased mut (pointee (Ms.the-row .written))) l₁₉ 0) ∷ ‵ (fdies (tyRef erased mut (pointee (Ms.the-row .written))) l₁₉) ∷ ‵ (froom (sliceTy (tyRef erased mut (pointee (Le.the-row .written)))) l₁₈ 0) ∷ ‵ (fdies (sliceTy (tyRef erased mut (pointee (Le.the-row .written)))) l₁₈) ∷ ‵ (froom (tyRef erased mut (pointee (Le.the-row .written))) l₁₇ 0) ∷ ‵ (fdies (tyRef erased mut (pointee (Le.the-row .written))) l₁₇) ∷ ‵ (froom (sliceTy (tyRef erased mut (pointee (Ac.the-row .written)))) l₁₆ 0) ∷ ‵ (fdies (sliceTy (tyRef erased mut (pointee (Ac.the-row .written)))) l₁₆) ∷ ‵ (froom (tyRef erased mut (pointee (Ac.the-row .written))) l₁₅ 0) ∷ ‵ (fdies (tyRef erased mut (pointee (Ac.the-row .written))) l₁₅) ∷ ‵ (froom (sliceTy (tyRef erased mut (pointee (Pr.the-row .written)))) l₁₄ 0) ∷ ‵ (fdies (sliceTy (tyRef erased mut (pointee (Pr.the-row .written)))) l₁₄) ∷ ‵ (froom (tyRef erased mut (pointee (Pr.the-row .written))) l₁₃ 0) ∷ ‵ (fdies (tyRef erased mut (pointee (Pr.the-row .written))) l₁₃) ∷ ‵ (froom tyBool l₁₂ 0) ∷ ‵ (fdies tyBool l₁₂) ∷ ‵ (froom An′.mir l₁₁ 0) ∷ ‵ (fdies An′.mir l₁₁) ∷ ‵ (froom Ev′.mir l₁₀ 0) ∷ ‵ (fdies Ev′.mir l₁₀) ∷ ‵ (fat fullShare word l₉ 0 (vint w64 k)) ∷ ‵ (fdies word l₉) ∷ ‵ (fat fullShare word l₈ 0 (vint w64 n)) ∷ ‵ (fdies word l₈) ∷ ‵ (fat fullShare (sliceTy (tyRef (named 5) mut (pointee (u64 .written)))) l₇ 0 s₅) ∷ ‵ (fdies (sliceTy (tyRef (named 5) mut (pointee (u64 .written)))) l₇) ∷ ‵ (fat fullShare (sliceTy (tyRef (named 4) imm (pointee (u64 .written)))) l₆ 0 s₄) ∷ ‵ (fdies (sliceTy (tyRef (named 4) imm (pointee (u64 .written)))) l₆) ∷ ‵ (fat fullShare (sliceTy (tyRef (named 3) mut (pointee (Ms.the-row .written)))) l₅ 0 s₃) ∷ ‵ (fdies (sliceTy (tyRef (named 3) mut (pointee (Ms.the-row .written)))) l₅) ∷ ‵ (fat fullShare (sliceTy (tyRef (named 2) mut (pointee (Le.the-row .written)))) l₄ 0 s₂) ∷ ‵ (fdies (sliceTy (tyRef (named 2) mut (pointee (Le.the-row .written)))) l₄) ∷ ‵ (fat fullShare (sliceTy (tyRef (named 1) mut (pointee (Ac.the-row .written)))) l₃ 0 s₁) ∷ ‵ (fdies (sliceTy (tyRef (named 1) mut (pointee (Ac.the-row .written)))) l₃) ∷ ‵ (fat fullShare (sliceTy (tyRef (named 0) mut (pointee (Pr.the-row .written)))) l₂ 0 s₀) ∷ ‵ (fdies (sliceTy (tyRef (named 0) mut (pointee (Pr.the-row .written)))) l₂) ∷ ‵ (fat fullShare Sz′.mir l₁ 0 (valSz z)) ∷ ‵ (fdies Sz′.mir l₁) ∷ ‵ (froom tyUnit l₀ 0) ∷ ‵ (fdies tyUnit l₀) ∷ []
+          ∷ ‵ (froom (sliceTy (tyRef erased mut (pointee (u64 .written)))) l₂₃ 0) ∷ ‵ (froom (tyRef erased mut (pointee (u64 .written))) l₂₂ 0) ∷ ‵ (froom tyUnit l₂₁ 0) ∷ ‵ (froom (sliceTy (tyRef erased mut (pointee (Ms.the-row .written)))) l₂₀ 0) ∷ ‵ (froom (tyRef erased mut (pointee (Ms.the-row .written))) l₁₉ 0) ∷ ‵ (froom (sliceTy (tyRef erased mut (pointee (Le.the-row .written)))) l₁₈ 0) ∷ ‵ (froom (tyRef erased mut (pointee (Le.the-row .written))) l₁₇ 0) ∷ ‵ (froom (sliceTy (tyRef erased mut (pointee (Ac.the-row .written)))) l₁₆ 0) ∷ ‵ (froom (tyRef erased mut (pointee (Ac.the-row .written))) l₁₅ 0) ∷ ‵ (froom (sliceTy (tyRef erased mut (pointee (Pr.the-row .written)))) l₁₄ 0) ∷ ‵ (froom (tyRef erased mut (pointee (Pr.the-row .written))) l₁₃ 0) ∷ ‵ (froom tyBool l₁₂ 0) ∷ ‵ (froom An′.mir l₁₁ 0) ∷ ‵ (froom Ev′.mir l₁₀ 0) ∷ ‵ (fat fullShare word l₉ 0 (vint w64 k)) ∷ ‵ (fat fullShare word l₈ 0 (vint w64 n)) ∷ ‵ (fat fullShare (sliceTy (tyRef (named 5) mut (pointee (u64 .written)))) l₇ 0 s₅) ∷ ‵ (fat fullShare (sliceTy (tyRef (named 4) imm (pointee (u64 .written)))) l₆ 0 s₄) ∷ ‵ (fat fullShare (sliceTy (tyRef (named 3) mut (pointee (Ms.the-row .written)))) l₅ 0 s₃) ∷ ‵ (fat fullShare (sliceTy (tyRef (named 2) mut (pointee (Le.the-row .written)))) l₄ 0 s₂) ∷ ‵ (fat fullShare (sliceTy (tyRef (named 1) mut (pointee (Ac.the-row .written)))) l₃ 0 s₁) ∷ ‵ (fat fullShare (sliceTy (tyRef (named 0) mut (pointee (Pr.the-row .written)))) l₂ 0 s₀) ∷ ‵ (fat fullShare Sz′.mir l₁ 0 (valSz z)) ∷ ‵ (froom tyUnit l₀ 0) ∷ Dies ∷ []
 
       abbrev At : X → List (Item 𝓤)
       At w = Cx (w .0) (w .1)
@@ -227,22 +231,22 @@ module _ {M : Type 1} (𝓤 : URA M) (H : Heap 𝓤) (A : Atoms 𝓤) (W : Given
       turns : (w : X) → Sq W (At w) (runs C Λ En pieces.turn-1 (anyQ (Turned w)))
       unfolding afterTurn
       turns w =
-          assigns ! (bin ! (reads ! (from ! (stop !)) (look ! 40 refl)) (reads ! (from ! (stop !)) (look ! 42 refl)) tt) (from ! (stop !)) (init ! 34 refl (tt, tt)) $
-          tests ! (reads ! (from ! (stop !)) (look ! 34 refl))
+          assigns ! (bin ! (reads ! (from ! (stop !)) (look ! 26 refl)) (reads ! (from ! (stop !)) (look ! 27 refl)) tt) (from ! (stop !)) (init ! 23 refl (tt, tt)) $
+          tests ! (reads ! (from ! (stop !)) (look ! 23 refl))
           (λ on.
           move ! (8 ∷ 9 ∷ []) $
           calls ! fm (handed u64 κ₄ q₄ γ₄ b₄ o₄ events
           ∷ passed usize (uint-vals w64) (uint-makes 𝓤 H A W w64) k (refl, gk on) ∷ [])
-          Ev.the-row (event-at.clauses 𝓤 H A mem run) known-event-at valEv (LL.tells Ev.the-type Ev′.the-laws) e (λ w. tt) (λ w. factI 𝓤 _ (emp 𝓤) (event-there k n n₄ (low on) (fitting on .1 .0))) (λ w v ws. id⊢ 𝓤 _) (λ w. (and-then ! (reads ! (from ! (stop !)) (look ! 46 refl)) (and-then ! (reads ! (from ! (stop !)) (look ! 40 refl)) (no-more !)))) (λ g10 e10.
-          land ! (from ! (stop !)) (init ! 38 refl (typedEv e g10)) $
-          assigns ! (addr ! (from ! (fld ! refl (hop ! (look-in ! 54 (sub ! 0 refl (whole !))) (stop !))))) (from ! (stop !)) (init ! 32 refl (tt, tt)) $
-          assigns ! (agg ! (and-then ! (reads ! (from ! (stop !)) (look ! 32 refl)) (and-then ! (reads ! (from ! (fld ! refl (stop !))) (look-in ! 54 (sub ! 1 refl (whole !)))) (no-more !)))) (from ! (stop !)) (init ! 30 refl (tt, (tt, (record { fits = room₀ .0 }, tt)))) $
-          assigns ! (addr ! (from ! (fld ! refl (hop ! (look-in ! 52 (sub ! 0 refl (whole !))) (stop !))))) (from ! (stop !)) (init ! 28 refl (tt, tt)) $
-          assigns ! (agg ! (and-then ! (reads ! (from ! (stop !)) (look ! 28 refl)) (and-then ! (reads ! (from ! (fld ! refl (stop !))) (look-in ! 52 (sub ! 1 refl (whole !)))) (no-more !)))) (from ! (stop !)) (init ! 26 refl (tt, (tt, (record { fits = room₁ .0 }, tt)))) $
-          assigns ! (addr ! (from ! (fld ! refl (hop ! (look-in ! 50 (sub ! 0 refl (whole !))) (stop !))))) (from ! (stop !)) (init ! 24 refl (tt, tt)) $
-          assigns ! (agg ! (and-then ! (reads ! (from ! (stop !)) (look ! 24 refl)) (and-then ! (reads ! (from ! (fld ! refl (stop !))) (look-in ! 50 (sub ! 1 refl (whole !)))) (no-more !)))) (from ! (stop !)) (init ! 22 refl (tt, (tt, (record { fits = room₂ .0 }, tt)))) $
-          assigns ! (addr ! (from ! (fld ! refl (hop ! (look-in ! 48 (sub ! 0 refl (whole !))) (stop !))))) (from ! (stop !)) (init ! 20 refl (tt, tt)) $
-          assigns ! (agg ! (and-then ! (reads ! (from ! (stop !)) (look ! 20 refl)) (and-then ! (reads ! (from ! (fld ! refl (stop !))) (look-in ! 48 (sub ! 1 refl (whole !)))) (no-more !)))) (from ! (stop !)) (init ! 18 refl (tt, (tt, (record { fits = room₃ .0 }, tt)))) $
+          Ev.the-row (event-at.clauses 𝓤 H A mem run) known-event-at valEv (LL.tells Ev.the-type Ev′.the-laws) e (λ w. tt) (λ w. factI 𝓤 _ (emp 𝓤) (event-there k n n₄ (low on) (fitting on .1 .0))) (λ w v ws. id⊢ 𝓤 _) (λ w. (and-then ! (reads ! (from ! (stop !)) (look ! 29 refl)) (and-then ! (reads ! (from ! (stop !)) (look ! 26 refl)) (no-more !)))) (λ g10 e10.
+          land ! (from ! (stop !)) (init ! 25 refl (typedEv e g10)) $
+          assigns ! (addr ! (from ! (fld ! refl (hop ! (look-in ! 33 (sub ! 0 refl (whole !))) (stop !))))) (from ! (stop !)) (init ! 22 refl (tt, tt)) $
+          assigns ! (agg ! (and-then ! (reads ! (from ! (stop !)) (look ! 22 refl)) (and-then ! (reads ! (from ! (fld ! refl (stop !))) (look-in ! 33 (sub ! 1 refl (whole !)))) (no-more !)))) (from ! (stop !)) (init ! 21 refl (tt, (tt, (record { fits = room₀ .0 }, tt)))) $
+          assigns ! (addr ! (from ! (fld ! refl (hop ! (look-in ! 32 (sub ! 0 refl (whole !))) (stop !))))) (from ! (stop !)) (init ! 20 refl (tt, tt)) $
+          assigns ! (agg ! (and-then ! (reads ! (from ! (stop !)) (look ! 20 refl)) (and-then ! (reads ! (from ! (fld ! refl (stop !))) (look-in ! 32 (sub ! 1 refl (whole !)))) (no-more !)))) (from ! (stop !)) (init ! 19 refl (tt, (tt, (record { fits = room₁ .0 }, tt)))) $
+          assigns ! (addr ! (from ! (fld ! refl (hop ! (look-in ! 31 (sub ! 0 refl (whole !))) (stop !))))) (from ! (stop !)) (init ! 18 refl (tt, tt)) $
+          assigns ! (agg ! (and-then ! (reads ! (from ! (stop !)) (look ! 18 refl)) (and-then ! (reads ! (from ! (fld ! refl (stop !))) (look-in ! 31 (sub ! 1 refl (whole !)))) (no-more !)))) (from ! (stop !)) (init ! 17 refl (tt, (tt, (record { fits = room₂ .0 }, tt)))) $
+          assigns ! (addr ! (from ! (fld ! refl (hop ! (look-in ! 30 (sub ! 0 refl (whole !))) (stop !))))) (from ! (stop !)) (init ! 16 refl (tt, tt)) $
+          assigns ! (agg ! (and-then ! (reads ! (from ! (stop !)) (look ! 16 refl)) (and-then ! (reads ! (from ! (fld ! refl (stop !))) (look-in ! 30 (sub ! 1 refl (whole !)))) (no-more !)))) (from ! (stop !)) (init ! 15 refl (tt, (tt, (record { fits = room₃ .0 }, tt)))) $
           move ! (2 ∷ 3 ∷ 4 ∷ 5 ∷ 6 ∷ 7 ∷ 8 ∷ 9 ∷ []) $
           calls ! fm (passed Sz.the-row valsSz makesSz z gz
           ∷ lent Pr.the-row κ₀ q₀ γ₀ b₀ o₀ n₀ (r .proposers) (done′ .proposers) (long .0) room₀
@@ -250,24 +254,23 @@ module _ {M : Type 1} (𝓤 : URA M) (H : Heap 𝓤) (A : Atoms 𝓤) (W : Given
           ∷ lent Le.the-row κ₂ q₂ γ₂ b₂ o₂ n₂ (r .learners) (done′ .learners) (long .1 .1 .0) room₂
           ∷ lent Ms.the-row κ₃ q₃ γ₃ b₃ o₃ n₃ (r .slots) (done′ .slots) (long .1 .1 .1 .0) room₃
           ∷ passed Ev.the-row valsEv makesEv e g10 ∷ [])
-          An.the-row (step.clauses 𝓤 H A mem run) known-step valAn (EL.tells An.the-type An′.the-laws) (done′ .answer) (λ w. tt) (λ w. factI 𝓤 _ (emp 𝓤) (still on)) (λ w v ws. id⊢ 𝓤 _) (λ w. (and-then ! (reads ! (from ! (stop !)) (look ! 50 refl)) (and-then ! (reads ! (from ! (stop !)) (look ! 24 refl)) (and-then ! (reads ! (from ! (stop !)) (look ! 20 refl)) (and-then ! (reads ! (from ! (stop !)) (look ! 16 refl)) (and-then ! (reads ! (from ! (stop !)) (look ! 12 refl)) (and-then ! (reads ! (from ! (stop !)) (look ! 32 refl)) (no-more !)))))))) (λ g11 e11.
-          land ! (from ! (stop !)) (init ! 36 refl (typedAn (done′ .answer) g11)) $
-          assigns ! (addr ! (from ! (fld ! refl (hop ! (look-in ! 44 (sub ! 0 refl (whole !))) (stop !))))) (from ! (stop !)) (init ! 14 refl (tt, tt)) $
-          assigns ! (agg ! (and-then ! (reads ! (from ! (stop !)) (look ! 14 refl)) (and-then ! (reads ! (from ! (fld ! refl (stop !))) (look-in ! 44 (sub ! 1 refl (whole !)))) (no-more !)))) (from ! (stop !)) (init ! 12 refl (tt, (tt, (record { fits = room₅ .0 }, tt)))) $
+          An.the-row (step.clauses 𝓤 H A mem run) known-step valAn (EL.tells An.the-type An′.the-laws) (done′ .answer) (λ w. tt) (λ w. factI 𝓤 _ (emp 𝓤) (still on)) (λ w v ws. id⊢ 𝓤 _) (λ w. (and-then ! (reads ! (from ! (stop !)) (look ! 28 refl)) (and-then ! (reads ! (from ! (stop !)) (look ! 15 refl)) (and-then ! (reads ! (from ! (stop !)) (look ! 13 refl)) (and-then ! (reads ! (from ! (stop !)) (look ! 11 refl)) (and-then ! (reads ! (from ! (stop !)) (look ! 9 refl)) (and-then ! (reads ! (from ! (stop !)) (look ! 19 refl)) (no-more !)))))))) (λ g11 e11.
+          land ! (from ! (stop !)) (init ! 24 refl (typedAn (done′ .answer) g11)) $
+          assigns ! (addr ! (from ! (fld ! refl (hop ! (look-in ! 28 (sub ! 0 refl (whole !))) (stop !))))) (from ! (stop !)) (init ! 13 refl (tt, tt)) $
+          assigns ! (agg ! (and-then ! (reads ! (from ! (stop !)) (look ! 13 refl)) (and-then ! (reads ! (from ! (fld ! refl (stop !))) (look-in ! 28 (sub ! 1 refl (whole !)))) (no-more !)))) (from ! (stop !)) (init ! 12 refl (tt, (tt, (record { fits = room₅ .0 }, tt)))) $
           move ! (10 ∷ 11 ∷ []) $
           calls ! fm (lent u64 κ₅ q₅ γ₅ b₅ o₅ n₅ (r .log) log′ (long .1 .1 .1 .1) room₅
           ∷ passed usize (uint-vals w64) (uint-makes 𝓤 H A W w64) k (refl, gk on)
           ∷ passed An.the-row valsAn makesAn (done′ .answer) g11 ∷ [])
-          Nothing (note.clauses 𝓤 H A mem run) known-note (λ _. vunit) nothing-tells tt (λ w. tt) (λ w. factI 𝓤 _ (emp 𝓤) (answer-there k n n₅ (length (r .log)) (low on) (fitting on .1 .1) (long .1 .1 .1 .1))) (λ w v ws. fact-mono 𝓤 ((ws .0 ≡ log′)) ((v ≡ tt) × ((ws .0 ≡ log′))) (λ e′. (refl, e′))) (λ w. (and-then ! (reads ! (from ! (stop !)) (look ! 12 refl)) (and-then ! (reads ! (from ! (stop !)) (look ! 40 refl)) (and-then ! (reads ! (from ! (stop !)) (look ! 36 refl)) (no-more !))))) (λ _ e21.
-          land ! (from ! (stop !)) (init ! 16 refl (tt, tt)) $
-          assigns-last ! (bin ! (reads ! (from ! (stop !)) (look ! 40 refl)) (lit ! tt) (record { fits = fits-next k n (low on) (gn .1) })) (from ! (stop !)) (store ! 40 refl (tt, record { fits = fits-next k n (low on) (gn .1) })) $
-          forget ! 12 refl $ forget ! 14 refl $ forget ! 16 refl $ forget ! 18 refl $ forget ! 20 refl $ forget ! 22 refl $ forget ! 24 refl $ forget ! 26 refl $ forget ! 28 refl $ forget ! 30 refl $ forget ! 32 refl $ forget ! 34 refl $ forget ! 36 refl $ forget ! 38 refl $
+          Nothing (note.clauses 𝓤 H A mem run) known-note (λ _. vunit) nothing-tells tt (λ w. tt) (λ w. factI 𝓤 _ (emp 𝓤) (answer-there k n n₅ (length (r .log)) (low on) (fitting on .1 .1) (long .1 .1 .1 .1))) (λ w v ws. fact-mono 𝓤 ((ws .0 ≡ log′)) ((v ≡ tt) × ((ws .0 ≡ log′))) (λ e′. (refl, e′))) (λ w. (and-then ! (reads ! (from ! (stop !)) (look ! 12 refl)) (and-then ! (reads ! (from ! (stop !)) (look ! 26 refl)) (and-then ! (reads ! (from ! (stop !)) (look ! 24 refl)) (no-more !))))) (λ _ e21.
+          land ! (from ! (stop !)) (init ! 14 refl (tt, tt)) $
+          assigns-last ! (bin ! (reads ! (from ! (stop !)) (look ! 26 refl)) (lit ! tt) (record { fits = fits-next k n (low on) (gn .1) })) (from ! (stop !)) (store ! 26 refl (tt, record { fits = fits-next k n (low on) (gn .1) })) $
+          forget ! 12 refl $ forget ! 13 refl $ forget ! 14 refl $ forget ! 15 refl $ forget ! 16 refl $ forget ! 17 refl $ forget ! 18 refl $ forget ! 19 refl $ forget ! 20 refl $ forget ! 21 refl $ forget ! 22 refl $ forget ! 23 refl $ forget ! 24 refl $ forget ! 25 refl $
           move ! (2 ∷ 3 ∷ 4 ∷ 5 ∷ 6 ∷ 7 ∷ 8 ∷ 9 ∷ 10 ∷ 11 ∷ 0 ∷ 1 ∷ []) $
           again ! (Nearer n upto) At w (k + 1, onward z e k r, (omega (arith, low on), (((e11 .0), ((e11 .1 .0), ((e11 .1 .1 .0), ((e11 .1 .1 .1 .0), (e21 .0))))), ran-next z events r₀ r k same))) (falls k n (low on))))))
           (λ off. exec ! C Λ En pieces.t-3 (atRet En Post) $
-          assigns ! (of-opd ! (unit-lit !)) (from ! (stop !)) (init ! 58 refl (tt, tt)) $
-          returns ! (look ! 58 refl) $ forget ! 34 refl $ forget ! 40 refl $ forget ! 42 refl $ forget ! 44 refl $ forget ! 46 refl $ forget ! 48 refl $ forget ! 50 refl $ forget ! 52 refl $ forget ! 54 refl $ forget ! 56 refl $ forget ! 58 refl $
-          move ! (58 ∷ 59 ∷ []) $ free1 ! $ move ! (56 ∷ 57 ∷ []) $ free1 ! $ move ! (54 ∷ 55 ∷ []) $ free1 ! $ move ! (52 ∷ 53 ∷ []) $ free1 ! $ move ! (50 ∷ 51 ∷ []) $ free1 ! $ move ! (48 ∷ 49 ∷ []) $ free1 ! $ move ! (46 ∷ 47 ∷ []) $ free1 ! $ move ! (44 ∷ 45 ∷ []) $ free1 ! $ move ! (42 ∷ 43 ∷ []) $ free1 ! $ move ! (40 ∷ 41 ∷ []) $ free1 ! $ move ! (38 ∷ 39 ∷ []) $ free1 ! $ move ! (36 ∷ 37 ∷ []) $ free1 ! $ move ! (34 ∷ 35 ∷ []) $ free1 ! $ move ! (32 ∷ 33 ∷ []) $ free1 ! $ move ! (30 ∷ 31 ∷ []) $ free1 ! $ move ! (28 ∷ 29 ∷ []) $ free1 ! $ move ! (26 ∷ 27 ∷ []) $ free1 ! $ move ! (24 ∷ 25 ∷ []) $ free1 ! $ move ! (22 ∷ 23 ∷ []) $ free1 ! $ move ! (20 ∷ 21 ∷ []) $ free1 ! $ move ! (18 ∷ 19 ∷ []) $ free1 ! $ move ! (16 ∷ 17 ∷ []) $ free1 ! $ move ! (14 ∷ 15 ∷ []) $ free1 ! $ move ! (12 ∷ 13 ∷ []) $ free1 ! $ free0 ! $
+          assigns ! (of-opd ! (unit-lit !)) (from ! (stop !)) (init ! 35 refl (tt, tt)) $
+          returns ! (look ! 35 refl) $ frees-all ! 12 (bare _ _ ∷ bare _ _ ∷ bare _ _ ∷ bare _ _ ∷ bare _ _ ∷ bare _ _ ∷ bare _ _ ∷ bare _ _ ∷ bare _ _ ∷ bare _ _ ∷ bare _ _ ∷ full _ _ _ ∷ bare _ _ ∷ bare _ _ ∷ full _ _ _ ∷ full _ _ _ ∷ full _ _ _ ∷ full _ _ _ ∷ full _ _ _ ∷ full _ _ _ ∷ full _ _ _ ∷ full _ _ _ ∷ full _ _ _ ∷ full _ _ _ ∷ []) refl refl $
           by ! (exits r (same ∙ ap (ranTo z events r₀) (at-end k n (w .2 .0) (nltb→le k n off))) (long .0) (long .1 .0) (long .1 .1 .0) (long .1 .1 .1 .0) (long .1 .1 .1 .1)))
         where
           k : ℕ
@@ -313,11 +316,11 @@ module _ {M : Type 1} (𝓤 : URA M) (H : Heap 𝓤) (A : Atoms 𝓤) (W : Given
     walk : ent 𝓤 (onEntry 𝓤 H A this.signature (κ₀, (κ₁, (κ₂, (κ₃, (κ₄, (κ₅, tt)))))) (q₀, (q₁, (q₂, (q₃, (q₄, (q₅, tt)))))) (z, (listAt Pr.the-row b₀ o₀ ps γ₀, (listAt Ac.the-row b₁ o₁ acs γ₁, (listAt Le.the-row b₂ o₂ ls γ₂, (listAt Ms.the-row b₃ o₃ t γ₃, (listAt u64 b₄ o₄ events γ₄, (listAt u64 b₅ o₅ log γ₅, (n, tt)))))))) at) (WpFn 𝓤 H C Λ code.function (valSz z ∷ s₀ ∷ s₁ ∷ s₂ ∷ s₃ ∷ s₄ ∷ s₅ ∷ vint w64 n ∷ []) Post)
     walk =
         qed W ((‵ (flft κ₀ q₀) ⊛ ‵ (flft κ₁ q₁) ⊛ ‵ (flft κ₂ q₂) ⊛ ‵ (flft κ₃ q₃) ⊛ ‵ (flft κ₄ q₄) ⊛ ‵ (flft κ₅ q₅) ⊛ ‵ ftrue) ∷ ‵ (owns (Sz.the-row ∷ MutSlice (named 0) κ₀ Pr.the-row ∷ MutSlice (named 1) κ₁ Ac.the-row ∷ MutSlice (named 2) κ₂ Le.the-row ∷ MutSlice (named 3) κ₃ Ms.the-row ∷ ShrSlice (named 4) κ₄ u64 ∷ MutSlice (named 5) κ₅ u64 ∷ usize ∷ []) (z, (listAt Pr.the-row b₀ o₀ ps γ₀, (listAt Ac.the-row b₁ o₁ acs γ₁, (listAt Le.the-row b₂ o₂ ls γ₂, (listAt Ms.the-row b₃ o₃ t γ₃, (listAt u64 b₄ o₄ events γ₄, (listAt u64 b₅ o₅ log γ₅, (n, tt)))))))) at) ∷ []) ∵ enter ! C Λ code.function (valSz z ∷ s₀ ∷ s₁ ∷ s₂ ∷ s₃ ∷ s₄ ∷ s₅ ∷ vint w64 n ∷ []) _ $
-        alloc1 ! (λ l₀. alloc1 ! (λ l₁. alloc1 ! (λ l₂. alloc1 ! (λ l₃. alloc1 ! (λ l₄. alloc1 ! (λ l₅. alloc1 ! (λ l₆. alloc1 ! (λ l₇. alloc1 ! (λ l₈. alloc1 ! (λ l₉. alloc1 ! (λ l₁₀. alloc1 ! (λ l₁₁. alloc1 ! (λ l₁₂. alloc1 ! (λ l₁₃. alloc1 ! (λ l₁₄. alloc1 ! (λ l₁₅. alloc1 ! (λ l₁₆. alloc1 ! (λ l₁₇. alloc1 ! (λ l₁₈. alloc1 ! (λ l₁₉. alloc1 ! (λ l₂₀. alloc1 ! (λ l₂₁. alloc1 ! (λ l₂₂. alloc1 ! (λ l₂₃. alloc0 ! $ params1 ! $
-        pass1 ! (init ! 44 refl (typedSz z gz)) $ pass1 ! (init ! 42 refl (tt, (tt, (record { fits = room₀ .0 }, tt)))) $ pass1 ! (init ! 40 refl (tt, (tt, (record { fits = room₁ .0 }, tt)))) $ pass1 ! (init ! 38 refl (tt, (tt, (record { fits = room₂ .0 }, tt)))) $ pass1 ! (init ! 36 refl (tt, (tt, (record { fits = room₃ .0 }, tt)))) $ pass1 ! (init ! 34 refl (tt, (tt, (record { fits = room₄ .0 }, tt)))) $ pass1 ! (init ! 32 refl (tt, (tt, (record { fits = room₅ .0 }, tt)))) $ pass1 ! (init ! 30 refl (tt, record { fits = gn .1 })) $ pass0 ! $
-        move ! (49 ∷ []) $ fsplit ! $ move ! (1 ∷ []) $ fsplit ! $ move ! (1 ∷ []) $ fsplit ! $ move ! (1 ∷ []) $ fsplit ! $ move ! (1 ∷ []) $ fsplit ! $ move ! (1 ∷ []) $ fsplit ! $ move ! (1 ∷ []) $ fsplit ! $
-        move ! (56 ∷ []) $ split ! $ move ! (1 ∷ []) $ split ! $ move ! (1 ∷ []) $ split ! $ move ! (1 ∷ []) $ split ! $ move ! (1 ∷ []) $ split ! $ move ! (1 ∷ []) $ split ! $
-        keep ! (13 ∷ 6 ∷ 12 ∷ 5 ∷ 11 ∷ 4 ∷ 10 ∷ 3 ∷ 9 ∷ 2 ∷ 7 ∷ 0 ∷ 15 ∷ 16 ∷ 17 ∷ 18 ∷ 19 ∷ 20 ∷ 21 ∷ 22 ∷ 23 ∷ 24 ∷ 25 ∷ 26 ∷ 27 ∷ 28 ∷ 29 ∷ 30 ∷ 31 ∷ 32 ∷ 33 ∷ 34 ∷ 35 ∷ 36 ∷ 37 ∷ 38 ∷ 39 ∷ 40 ∷ 41 ∷ 42 ∷ 43 ∷ 44 ∷ 45 ∷ 46 ∷ 47 ∷ 48 ∷ 49 ∷ 50 ∷ 51 ∷ 52 ∷ 53 ∷ 54 ∷ 55 ∷ 56 ∷ 57 ∷ 58 ∷ 59 ∷ 60 ∷ 61 ∷ 62 ∷ []) $ assigns ! (of-opd ! (lit ! tt)) (from ! (stop !)) (init ! 40 refl (tt, record { fits = lit< tt })) $
+        alloc1 ! (λ l₀. alloc1 ! (λ l₁. alloc1 ! (λ l₂. alloc1 ! (λ l₃. alloc1 ! (λ l₄. alloc1 ! (λ l₅. alloc1 ! (λ l₆. alloc1 ! (λ l₇. alloc1 ! (λ l₈. alloc1 ! (λ l₉. alloc1 ! (λ l₁₀. alloc1 ! (λ l₁₁. alloc1 ! (λ l₁₂. alloc1 ! (λ l₁₃. alloc1 ! (λ l₁₄. alloc1 ! (λ l₁₅. alloc1 ! (λ l₁₆. alloc1 ! (λ l₁₇. alloc1 ! (λ l₁₈. alloc1 ! (λ l₁₉. alloc1 ! (λ l₂₀. alloc1 ! (λ l₂₁. alloc1 ! (λ l₂₂. alloc1 ! (λ l₂₃. alloc0 ! $ dies-apart ! 24 $ params1 ! $
+        pass1 ! (init ! 23 refl (typedSz z gz)) $ pass1 ! (init ! 22 refl (tt, (tt, (record { fits = room₀ .0 }, tt)))) $ pass1 ! (init ! 21 refl (tt, (tt, (record { fits = room₁ .0 }, tt)))) $ pass1 ! (init ! 20 refl (tt, (tt, (record { fits = room₂ .0 }, tt)))) $ pass1 ! (init ! 19 refl (tt, (tt, (record { fits = room₃ .0 }, tt)))) $ pass1 ! (init ! 18 refl (tt, (tt, (record { fits = room₄ .0 }, tt)))) $ pass1 ! (init ! 17 refl (tt, (tt, (record { fits = room₅ .0 }, tt)))) $ pass1 ! (init ! 16 refl (tt, record { fits = gn .1 })) $ pass0 ! $
+        move ! (26 ∷ []) $ fsplit ! $ move ! (1 ∷ []) $ fsplit ! $ move ! (1 ∷ []) $ fsplit ! $ move ! (1 ∷ []) $ fsplit ! $ move ! (1 ∷ []) $ fsplit ! $ move ! (1 ∷ []) $ fsplit ! $ move ! (1 ∷ []) $ fsplit ! $
+        move ! (33 ∷ []) $ split ! $ move ! (1 ∷ []) $ split ! $ move ! (1 ∷ []) $ split ! $ move ! (1 ∷ []) $ split ! $ move ! (1 ∷ []) $ split ! $ move ! (1 ∷ []) $ split ! $
+        keep ! (13 ∷ 6 ∷ 12 ∷ 5 ∷ 11 ∷ 4 ∷ 10 ∷ 3 ∷ 9 ∷ 2 ∷ 7 ∷ 0 ∷ 16 ∷ 17 ∷ 18 ∷ 19 ∷ 20 ∷ 21 ∷ 22 ∷ 23 ∷ 24 ∷ 25 ∷ 26 ∷ 27 ∷ 28 ∷ 29 ∷ 30 ∷ 31 ∷ 32 ∷ 33 ∷ 34 ∷ 35 ∷ 36 ∷ 37 ∷ 38 ∷ 39 ∷ 15 ∷ []) $ assigns ! (of-opd ! (lit ! tt)) (from ! (stop !)) (init ! 26 refl (tt, record { fits = lit< tt })) $
         looped l₀ l₁ l₂ l₃ l₄ l₅ l₆ l₇ l₈ l₉ l₁₀ l₁₁ l₁₂ l₁₃ l₁₄ l₁₅ l₁₆ l₁₇ l₁₈ l₁₉ l₂₀ l₂₁ l₂₂ l₂₃))))))))))))))))))))))))
 
 module _ {M : Type 1} (𝓤 : URA M) (H : Heap 𝓤) (A : Atoms 𝓤) (W : Given 𝓤 H A) (mem : Memory → SProp 𝓤) (run : Routine → Fun 𝓤) (𝓣 : Tables 𝓤 H) (known-event-at : Triple 𝓤 (𝓣 .C #event-at) (Of-event-at 𝓤 H A mem run)) (known-step : Triple 𝓤 (𝓣 .C #step) (Of-step 𝓤 H A mem run)) (known-note : Triple 𝓤 (𝓣 .C #note) (Of-note 𝓤 H A mem run)) where

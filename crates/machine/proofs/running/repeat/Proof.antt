@@ -20,7 +20,7 @@ use contract.Monad.{Fun, factI}
 use contract.Running.{givenOf, tables, tablesOf}
 use types.Kit.{Given, Item, ‵, _⊛_, ⋆, runs, anyQ, atRet, Sq, _$_, _∵_, !, qed, by, move, keep, split, join, fsplit, fjoin, suffices, frame, done}
 use types.Part.{agg, whole, sub, look-in}
-use types.Run.{look, init, store, forget, stop, hop, fld, from, load as reads, lit, addr, of-opd, bin, and-then, no-more, assigns, assigns-last, land, first, blocks, returns, enter, alloc1, alloc0, params1, pass1, pass0, free1, free0, exec, Below, again, loops}
+use types.Run.{look, init, store, forget, stop, hop, fld, from, load as reads, lit, addr, of-opd, bin, and-then, no-more, assigns, assigns-last, land, first, blocks, returns, enter, alloc1, alloc0, params1, pass1, pass0, exec, Below, again, loops}
 use sound.WpLaws.{FmC, fmOf, WpFn-mono}
 use denote.RattleType.{owns}
 use denote.Laws.{Is, Makes}
@@ -41,6 +41,7 @@ use denote.Exit.{yes}
 use Rattle.model.specs.declared.Answer.the-variants.{Refused}
 use Rattle.machine.specs.Stepping.{Left, stepOf, Fits}
 use Rattle.machine.specs.Running.{untouched, timesFrom, timesOf, Repeats}
+use Rattle.machine.proofs.Frees.{full, bare, dies-apart, frees-all}
 use Rattle.machine.proofs.Relending.{Slice, listAt}
 use Rattle.machine.proofs.CallsWithSlices.{passed, lent, calls}
 use Rattle.machine.proofs.LoopsOverSteps.{at-end, fits-byte, still-fit, times-none, times-next}
@@ -179,6 +180,9 @@ module _ {M : Type 1} (𝓤 : URA M) (H : Heap 𝓤) (A : Atoms 𝓤) (W : Given
       abbrev En : Env 𝓤 H
       En = (An′.mir, l₀) ∷ (Sz′.mir, l₁) ∷ ((sliceTy (tyRef (named 0) mut (pointee (Pr.the-row .written)))), l₂) ∷ ((sliceTy (tyRef (named 1) mut (pointee (Ac.the-row .written)))), l₃) ∷ ((sliceTy (tyRef (named 2) mut (pointee (Le.the-row .written)))), l₄) ∷ ((sliceTy (tyRef (named 3) mut (pointee (Ms.the-row .written)))), l₅) ∷ (Ev′.mir, l₆) ∷ (byte, l₇) ∷ (An′.mir, l₈) ∷ (byte, l₉) ∷ (tyBool, l₁₀) ∷ ((tyRef erased mut (pointee (Pr.the-row .written))), l₁₁) ∷ ((sliceTy (tyRef erased mut (pointee (Pr.the-row .written)))), l₁₂) ∷ ((tyRef erased mut (pointee (Ac.the-row .written))), l₁₃) ∷ ((sliceTy (tyRef erased mut (pointee (Ac.the-row .written)))), l₁₄) ∷ ((tyRef erased mut (pointee (Le.the-row .written))), l₁₅) ∷ ((sliceTy (tyRef erased mut (pointee (Le.the-row .written)))), l₁₆) ∷ ((tyRef erased mut (pointee (Ms.the-row .written))), l₁₇) ∷ ((sliceTy (tyRef erased mut (pointee (Ms.the-row .written)))), l₁₈) ∷ []
 
+      abbrev Dies : Item 𝓤
+      Dies = ‵ (fdies (sliceTy (tyRef erased mut (pointee (Ms.the-row .written)))) l₁₈) ⊛ ‵ (fdies (tyRef erased mut (pointee (Ms.the-row .written))) l₁₇) ⊛ ‵ (fdies (sliceTy (tyRef erased mut (pointee (Le.the-row .written)))) l₁₆) ⊛ ‵ (fdies (tyRef erased mut (pointee (Le.the-row .written))) l₁₅) ⊛ ‵ (fdies (sliceTy (tyRef erased mut (pointee (Ac.the-row .written)))) l₁₄) ⊛ ‵ (fdies (tyRef erased mut (pointee (Ac.the-row .written))) l₁₃) ⊛ ‵ (fdies (sliceTy (tyRef erased mut (pointee (Pr.the-row .written)))) l₁₂) ⊛ ‵ (fdies (tyRef erased mut (pointee (Pr.the-row .written))) l₁₁) ⊛ ‵ (fdies tyBool l₁₀) ⊛ ‵ (fdies byte l₉) ⊛ ‵ (fdies An′.mir l₈) ⊛ ‵ (fdies byte l₇) ⊛ ‵ (fdies Ev′.mir l₆) ⊛ ‵ (fdies (sliceTy (tyRef (named 3) mut (pointee (Ms.the-row .written)))) l₅) ⊛ ‵ (fdies (sliceTy (tyRef (named 2) mut (pointee (Le.the-row .written)))) l₄) ⊛ ‵ (fdies (sliceTy (tyRef (named 1) mut (pointee (Ac.the-row .written)))) l₃) ⊛ ‵ (fdies (sliceTy (tyRef (named 0) mut (pointee (Pr.the-row .written)))) l₂) ⊛ ‵ (fdies Sz′.mir l₁) ⊛ ‵ (fdies An′.mir l₀) ⊛ ‵ ftrue
+
       abbrev Long : Left → Type 0
       Long r = (length (r .proposers) ≡ n₀) × ((length (r .acceptors) ≡ n₁) × ((length (r .learners) ≡ n₂) × ((length (r .slots) ≡ n₃))))
 
@@ -194,7 +198,7 @@ module _ {M : Type 1} (𝓤 : URA M) (H : Heap 𝓤) (A : Atoms 𝓤) (W : Given
 
       abbrev Cx : ℕ → Left → List (Item 𝓤)
       Cx k r = ‵ (Slice Pr.the-row κ₀ γ₀ b₀ o₀ n₀ (r .proposers)) ∷ ‵ (flft κ₀ q₀) ∷ ‵ (Slice Ac.the-row κ₁ γ₁ b₁ o₁ n₁ (r .acceptors)) ∷ ‵ (flft κ₁ q₁) ∷ ‵ (Slice Le.the-row κ₂ γ₂ b₂ o₂ n₂ (r .learners)) ∷ ‵ (flft κ₂ q₂) ∷ ‵ (Slice Ms.the-row κ₃ γ₃ b₃ o₃ n₃ (r .slots)) ∷ ‵ (flft κ₃ q₃)
-          ∷ ‵ (froom (sliceTy (tyRef erased mut (pointee (Ms.the-row .written)))) l₁₈ 0) ∷ ‵ (fdies (sliceTy (tyRef erased mut (pointee (Ms.the-row .written)))) l₁₈) ∷ ‵ (froom (tyRef erased mut (pointee (Ms.the-row .written))) l₁₇ 0) ∷ ‵ (fdies (tyRef erased mut (pointee (Ms.the-row .written))) l₁₇) ∷ ‵ (froom (sliceTy (tyRef erased mut (pointee (Le.the-row .written)))) l₁₆ 0) ∷ ‵ (fdies (sliceTy (tyRef erased mut (pointee (Le.the-row .written)))) l₁₆) ∷ ‵ (froom (tyRef erased mut (pointee (Le.the-row .written))) l₁₅ 0) ∷ ‵ (fdies (tyRef erased mut (pointee (Le.the-row .written))) l₁₅) ∷ ‵ (froom (sliceTy (tyRef erased mut (pointee (Ac.the-row .written)))) l₁₄ 0) ∷ ‵ (fdies (sliceTy (tyRef erased mut (pointee (Ac.the-row .written)))) l₁₄) ∷ ‵ (froom (tyRef erased mut (pointee (Ac.the-row .written))) l₁₃ 0) ∷ ‵ (fdies (tyRef erased mut (pointee (Ac.the-row .written))) l₁₃) ∷ ‵ (froom (sliceTy (tyRef erased mut (pointee (Pr.the-row .written)))) l₁₂ 0) ∷ ‵ (fdies (sliceTy (tyRef erased mut (pointee (Pr.the-row .written)))) l₁₂) ∷ ‵ (froom (tyRef erased mut (pointee (Pr.the-row .written))) l₁₁ 0) ∷ ‵ (fdies (tyRef erased mut (pointee (Pr.the-row .written))) l₁₁) ∷ ‵ (froom tyBool l₁₀ 0) ∷ ‵ (fdies tyBool l₁₀) ∷ ‵ (fat fullShare byte l₉ 0 (vint w8 k)) ∷ ‵ (fdies byte l₉) ∷ ‵ (fat fullShare An′.mir l₈ 0 (valAn (r .answer))) ∷ ‵ (fdies An′.mir l₈) ∷ ‵ (fat fullShare byte l₇ 0 (vint w8 n)) ∷ ‵ (fdies byte l₇) ∷ ‵ (fat fullShare Ev′.mir l₆ 0 (valEv e)) ∷ ‵ (fdies Ev′.mir l₆) ∷ ‵ (fat fullShare (sliceTy (tyRef (named 3) mut (pointee (Ms.the-row .written)))) l₅ 0 s₃) ∷ ‵ (fdies (sliceTy (tyRef (named 3) mut (pointee (Ms.the-row .written)))) l₅) ∷ ‵ (fat fullShare (sliceTy (tyRef (named 2) mut (pointee (Le.the-row .written)))) l₄ 0 s₂) ∷ ‵ (fdies (sliceTy (tyRef (named 2) mut (pointee (Le.the-row .written)))) l₄) ∷ ‵ (fat fullShare (sliceTy (tyRef (named 1) mut (pointee (Ac.the-row .written)))) l₃ 0 s₁) ∷ ‵ (fdies (sliceTy (tyRef (named 1) mut (pointee (Ac.the-row .written)))) l₃) ∷ ‵ (fat fullShare (sliceTy (tyRef (named 0) mut (pointee (Pr.the-row .written)))) l₂ 0 s₀) ∷ ‵ (fdies (sliceTy (tyRef (named 0) mut (pointee (Pr.the-row .written)))) l₂) ∷ ‵ (fat fullShare Sz′.mir l₁ 0 (valSz z)) ∷ ‵ (fdies Sz′.mir l₁) ∷ ‵ (froom An′.mir l₀ 0) ∷ ‵ (fdies An′.mir l₀) ∷ []
+          ∷ ‵ (froom (sliceTy (tyRef erased mut (pointee (Ms.the-row .written)))) l₁₈ 0) ∷ ‵ (froom (tyRef erased mut (pointee (Ms.the-row .written))) l₁₇ 0) ∷ ‵ (froom (sliceTy (tyRef erased mut (pointee (Le.the-row .written)))) l₁₆ 0) ∷ ‵ (froom (tyRef erased mut (pointee (Le.the-row .written))) l₁₅ 0) ∷ ‵ (froom (sliceTy (tyRef erased mut (pointee (Ac.the-row .written)))) l₁₄ 0) ∷ ‵ (froom (tyRef erased mut (pointee (Ac.the-row .written))) l₁₃ 0) ∷ ‵ (froom (sliceTy (tyRef erased mut (pointee (Pr.the-row .written)))) l₁₂ 0) ∷ ‵ (froom (tyRef erased mut (pointee (Pr.the-row .written))) l₁₁ 0) ∷ ‵ (froom tyBool l₁₀ 0) ∷ ‵ (fat fullShare byte l₉ 0 (vint w8 k)) ∷ ‵ (fat fullShare An′.mir l₈ 0 (valAn (r .answer))) ∷ ‵ (fat fullShare byte l₇ 0 (vint w8 n)) ∷ ‵ (fat fullShare Ev′.mir l₆ 0 (valEv e)) ∷ ‵ (fat fullShare (sliceTy (tyRef (named 3) mut (pointee (Ms.the-row .written)))) l₅ 0 s₃) ∷ ‵ (fat fullShare (sliceTy (tyRef (named 2) mut (pointee (Le.the-row .written)))) l₄ 0 s₂) ∷ ‵ (fat fullShare (sliceTy (tyRef (named 1) mut (pointee (Ac.the-row .written)))) l₃ 0 s₁) ∷ ‵ (fat fullShare (sliceTy (tyRef (named 0) mut (pointee (Pr.the-row .written)))) l₂ 0 s₀) ∷ ‵ (fat fullShare Sz′.mir l₁ 0 (valSz z)) ∷ ‵ (froom An′.mir l₀ 0) ∷ Dies ∷ []
 
       abbrev At : X → List (Item 𝓤)
       At w = Cx (w .0) (w .1)
@@ -205,32 +209,31 @@ module _ {M : Type 1} (𝓤 : URA M) (H : Heap 𝓤) (A : Atoms 𝓤) (W : Given
       turns : (w : X) → Sq W (At w) (runs C Λ En pieces.turn-1 (anyQ (Turned w)))
       unfolding afterTurn
       turns w =
-          assigns ! (bin ! (reads ! (from ! (stop !)) (look ! 26 refl)) (reads ! (from ! (stop !)) (look ! 30 refl)) tt) (from ! (stop !)) (init ! 24 refl (tt, tt)) $
-          tests ! (reads ! (from ! (stop !)) (look ! 24 refl))
+          assigns ! (bin ! (reads ! (from ! (stop !)) (look ! 17 refl)) (reads ! (from ! (stop !)) (look ! 19 refl)) tt) (from ! (stop !)) (init ! 16 refl (tt, tt)) $
+          tests ! (reads ! (from ! (stop !)) (look ! 16 refl))
           (λ on.
-          assigns ! (addr ! (from ! (fld ! refl (hop ! (look-in ! 40 (sub ! 0 refl (whole !))) (stop !))))) (from ! (stop !)) (init ! 22 refl (tt, tt)) $
-          assigns ! (agg ! (and-then ! (reads ! (from ! (stop !)) (look ! 22 refl)) (and-then ! (reads ! (from ! (fld ! refl (stop !))) (look-in ! 40 (sub ! 1 refl (whole !)))) (no-more !)))) (from ! (stop !)) (init ! 20 refl (tt, (tt, (record { fits = room₀ .0 }, tt)))) $
-          assigns ! (addr ! (from ! (fld ! refl (hop ! (look-in ! 38 (sub ! 0 refl (whole !))) (stop !))))) (from ! (stop !)) (init ! 18 refl (tt, tt)) $
-          assigns ! (agg ! (and-then ! (reads ! (from ! (stop !)) (look ! 18 refl)) (and-then ! (reads ! (from ! (fld ! refl (stop !))) (look-in ! 38 (sub ! 1 refl (whole !)))) (no-more !)))) (from ! (stop !)) (init ! 16 refl (tt, (tt, (record { fits = room₁ .0 }, tt)))) $
-          assigns ! (addr ! (from ! (fld ! refl (hop ! (look-in ! 36 (sub ! 0 refl (whole !))) (stop !))))) (from ! (stop !)) (init ! 14 refl (tt, tt)) $
-          assigns ! (agg ! (and-then ! (reads ! (from ! (stop !)) (look ! 14 refl)) (and-then ! (reads ! (from ! (fld ! refl (stop !))) (look-in ! 36 (sub ! 1 refl (whole !)))) (no-more !)))) (from ! (stop !)) (init ! 12 refl (tt, (tt, (record { fits = room₂ .0 }, tt)))) $
-          assigns ! (addr ! (from ! (fld ! refl (hop ! (look-in ! 34 (sub ! 0 refl (whole !))) (stop !))))) (from ! (stop !)) (init ! 10 refl (tt, tt)) $
-          assigns ! (agg ! (and-then ! (reads ! (from ! (stop !)) (look ! 10 refl)) (and-then ! (reads ! (from ! (fld ! refl (stop !))) (look-in ! 34 (sub ! 1 refl (whole !)))) (no-more !)))) (from ! (stop !)) (init ! 8 refl (tt, (tt, (record { fits = room₃ .0 }, tt)))) $
+          assigns ! (addr ! (from ! (fld ! refl (hop ! (look-in ! 24 (sub ! 0 refl (whole !))) (stop !))))) (from ! (stop !)) (init ! 15 refl (tt, tt)) $
+          assigns ! (agg ! (and-then ! (reads ! (from ! (stop !)) (look ! 15 refl)) (and-then ! (reads ! (from ! (fld ! refl (stop !))) (look-in ! 24 (sub ! 1 refl (whole !)))) (no-more !)))) (from ! (stop !)) (init ! 14 refl (tt, (tt, (record { fits = room₀ .0 }, tt)))) $
+          assigns ! (addr ! (from ! (fld ! refl (hop ! (look-in ! 23 (sub ! 0 refl (whole !))) (stop !))))) (from ! (stop !)) (init ! 13 refl (tt, tt)) $
+          assigns ! (agg ! (and-then ! (reads ! (from ! (stop !)) (look ! 13 refl)) (and-then ! (reads ! (from ! (fld ! refl (stop !))) (look-in ! 23 (sub ! 1 refl (whole !)))) (no-more !)))) (from ! (stop !)) (init ! 12 refl (tt, (tt, (record { fits = room₁ .0 }, tt)))) $
+          assigns ! (addr ! (from ! (fld ! refl (hop ! (look-in ! 22 (sub ! 0 refl (whole !))) (stop !))))) (from ! (stop !)) (init ! 11 refl (tt, tt)) $
+          assigns ! (agg ! (and-then ! (reads ! (from ! (stop !)) (look ! 11 refl)) (and-then ! (reads ! (from ! (fld ! refl (stop !))) (look-in ! 22 (sub ! 1 refl (whole !)))) (no-more !)))) (from ! (stop !)) (init ! 10 refl (tt, (tt, (record { fits = room₂ .0 }, tt)))) $
+          assigns ! (addr ! (from ! (fld ! refl (hop ! (look-in ! 21 (sub ! 0 refl (whole !))) (stop !))))) (from ! (stop !)) (init ! 9 refl (tt, tt)) $
+          assigns ! (agg ! (and-then ! (reads ! (from ! (stop !)) (look ! 9 refl)) (and-then ! (reads ! (from ! (fld ! refl (stop !))) (look-in ! 21 (sub ! 1 refl (whole !)))) (no-more !)))) (from ! (stop !)) (init ! 8 refl (tt, (tt, (record { fits = room₃ .0 }, tt)))) $
           calls ! fm (passed Sz.the-row valsSz makesSz z gz
           ∷ lent Pr.the-row κ₀ q₀ γ₀ b₀ o₀ n₀ (r .proposers) (done′ .proposers) (long .0) room₀
           ∷ lent Ac.the-row κ₁ q₁ γ₁ b₁ o₁ n₁ (r .acceptors) (done′ .acceptors) (long .1 .0) room₁
           ∷ lent Le.the-row κ₂ q₂ γ₂ b₂ o₂ n₂ (r .learners) (done′ .learners) (long .1 .1 .0) room₂
           ∷ lent Ms.the-row κ₃ q₃ γ₃ b₃ o₃ n₃ (r .slots) (done′ .slots) (long .1 .1 .1) room₃
           ∷ passed Ev.the-row valsEv makesEv e ge ∷ [])
-          An.the-row (step.clauses 𝓤 H A mem run) known-step valAn (EL.tells An.the-type An′.the-laws) (done′ .answer) (λ w. tt) (λ w. factI 𝓤 _ (emp 𝓤) (still on)) (λ w v ws. id⊢ 𝓤 _) (λ w. (and-then ! (reads ! (from ! (stop !)) (look ! 36 refl)) (and-then ! (reads ! (from ! (stop !)) (look ! 14 refl)) (and-then ! (reads ! (from ! (stop !)) (look ! 10 refl)) (and-then ! (reads ! (from ! (stop !)) (look ! 6 refl)) (and-then ! (reads ! (from ! (stop !)) (look ! 2 refl)) (and-then ! (reads ! (from ! (stop !)) (look ! 26 refl)) (no-more !)))))))) (λ g8 e8.
-          land ! (from ! (stop !)) (store ! 28 refl (typedAn (done′ .answer) g8)) $
-          assigns-last ! (bin ! (reads ! (from ! (stop !)) (look ! 26 refl)) (lit ! tt) (record { fits = fits-byte k n (low on) (gn .1) })) (from ! (stop !)) (store ! 26 refl (tt, record { fits = fits-byte k n (low on) (gn .1) })) $
-          forget ! 8 refl $ forget ! 10 refl $ forget ! 12 refl $ forget ! 14 refl $ forget ! 16 refl $ forget ! 18 refl $ forget ! 20 refl $ forget ! 22 refl $ forget ! 24 refl $
+          An.the-row (step.clauses 𝓤 H A mem run) known-step valAn (EL.tells An.the-type An′.the-laws) (done′ .answer) (λ w. tt) (λ w. factI 𝓤 _ (emp 𝓤) (still on)) (λ w v ws. id⊢ 𝓤 _) (λ w. (and-then ! (reads ! (from ! (stop !)) (look ! 19 refl)) (and-then ! (reads ! (from ! (stop !)) (look ! 8 refl)) (and-then ! (reads ! (from ! (stop !)) (look ! 6 refl)) (and-then ! (reads ! (from ! (stop !)) (look ! 4 refl)) (and-then ! (reads ! (from ! (stop !)) (look ! 2 refl)) (and-then ! (reads ! (from ! (stop !)) (look ! 14 refl)) (no-more !)))))))) (λ g8 e8.
+          land ! (from ! (stop !)) (store ! 18 refl (typedAn (done′ .answer) g8)) $
+          assigns-last ! (bin ! (reads ! (from ! (stop !)) (look ! 17 refl)) (lit ! tt) (record { fits = fits-byte k n (low on) (gn .1) })) (from ! (stop !)) (store ! 17 refl (tt, record { fits = fits-byte k n (low on) (gn .1) })) $
+          forget ! 8 refl $ forget ! 9 refl $ forget ! 10 refl $ forget ! 11 refl $ forget ! 12 refl $ forget ! 13 refl $ forget ! 14 refl $ forget ! 15 refl $ forget ! 16 refl $
           again ! (Nearer n upto) At w (k + 1, done′, (omega (arith, low on), (((e8 .0), ((e8 .1 .0), ((e8 .1 .1 .0), (e8 .1 .1 .1 .0)))), (times-next z e r₀ r k same, g8)))) (falls k n (low on))))
           (λ off. exec ! C Λ En pieces.t-4 (atRet En Post) $
-          assigns ! (of-opd ! (reads ! (from ! (stop !)) (look ! 28 refl))) (from ! (stop !)) (init ! 44 refl (typedAn (r .answer) is)) $
-          returns ! (look ! 44 refl) $ forget ! 24 refl $ forget ! 26 refl $ forget ! 28 refl $ forget ! 30 refl $ forget ! 32 refl $ forget ! 34 refl $ forget ! 36 refl $ forget ! 38 refl $ forget ! 40 refl $ forget ! 42 refl $ forget ! 44 refl $
-          move ! (44 ∷ 45 ∷ []) $ free1 ! $ move ! (42 ∷ 43 ∷ []) $ free1 ! $ move ! (40 ∷ 41 ∷ []) $ free1 ! $ move ! (38 ∷ 39 ∷ []) $ free1 ! $ move ! (36 ∷ 37 ∷ []) $ free1 ! $ move ! (34 ∷ 35 ∷ []) $ free1 ! $ move ! (32 ∷ 33 ∷ []) $ free1 ! $ move ! (30 ∷ 31 ∷ []) $ free1 ! $ move ! (28 ∷ 29 ∷ []) $ free1 ! $ move ! (26 ∷ 27 ∷ []) $ free1 ! $ move ! (24 ∷ 25 ∷ []) $ free1 ! $ move ! (22 ∷ 23 ∷ []) $ free1 ! $ move ! (20 ∷ 21 ∷ []) $ free1 ! $ move ! (18 ∷ 19 ∷ []) $ free1 ! $ move ! (16 ∷ 17 ∷ []) $ free1 ! $ move ! (14 ∷ 15 ∷ []) $ free1 ! $ move ! (12 ∷ 13 ∷ []) $ free1 ! $ move ! (10 ∷ 11 ∷ []) $ free1 ! $ move ! (8 ∷ 9 ∷ []) $ free1 ! $ free0 ! $
+          assigns ! (of-opd ! (reads ! (from ! (stop !)) (look ! 18 refl))) (from ! (stop !)) (init ! 26 refl (typedAn (r .answer) is)) $
+          returns ! (look ! 26 refl) $ frees-all ! 8 (bare _ _ ∷ bare _ _ ∷ bare _ _ ∷ bare _ _ ∷ bare _ _ ∷ bare _ _ ∷ bare _ _ ∷ bare _ _ ∷ full _ _ _ ∷ full _ _ _ ∷ full _ _ _ ∷ full _ _ _ ∷ full _ _ _ ∷ full _ _ _ ∷ full _ _ _ ∷ full _ _ _ ∷ full _ _ _ ∷ full _ _ _ ∷ full _ _ _ ∷ []) refl refl $
           by ! (exits r (same ∙ ap (timesFrom z e r₀) (at-end k n (w .2 .0) (nltb→le k n off))) is (long .0) (long .1 .0) (long .1 .1 .0) (long .1 .1 .1)))
         where
           k : ℕ
@@ -267,12 +270,12 @@ module _ {M : Type 1} (𝓤 : URA M) (H : Heap 𝓤) (A : Atoms 𝓤) (W : Given
     walk : ent 𝓤 (onEntry 𝓤 H A this.signature (κ₀, (κ₁, (κ₂, (κ₃, tt)))) (q₀, (q₁, (q₂, (q₃, tt)))) (z, (listAt Pr.the-row b₀ o₀ ps γ₀, (listAt Ac.the-row b₁ o₁ acs γ₁, (listAt Le.the-row b₂ o₂ ls γ₂, (listAt Ms.the-row b₃ o₃ t γ₃, (e, (n, tt))))))) at) (WpFn 𝓤 H C Λ code.function (valSz z ∷ s₀ ∷ s₁ ∷ s₂ ∷ s₃ ∷ valEv e ∷ vint w8 n ∷ []) Post)
     walk =
         qed W ((‵ (flft κ₀ q₀) ⊛ ‵ (flft κ₁ q₁) ⊛ ‵ (flft κ₂ q₂) ⊛ ‵ (flft κ₃ q₃) ⊛ ‵ ftrue) ∷ ‵ (owns (Sz.the-row ∷ MutSlice (named 0) κ₀ Pr.the-row ∷ MutSlice (named 1) κ₁ Ac.the-row ∷ MutSlice (named 2) κ₂ Le.the-row ∷ MutSlice (named 3) κ₃ Ms.the-row ∷ Ev.the-row ∷ u8 ∷ []) (z, (listAt Pr.the-row b₀ o₀ ps γ₀, (listAt Ac.the-row b₁ o₁ acs γ₁, (listAt Le.the-row b₂ o₂ ls γ₂, (listAt Ms.the-row b₃ o₃ t γ₃, (e, (n, tt))))))) at) ∷ []) ∵ enter ! C Λ code.function (valSz z ∷ s₀ ∷ s₁ ∷ s₂ ∷ s₃ ∷ valEv e ∷ vint w8 n ∷ []) _ $
-        alloc1 ! (λ l₀. alloc1 ! (λ l₁. alloc1 ! (λ l₂. alloc1 ! (λ l₃. alloc1 ! (λ l₄. alloc1 ! (λ l₅. alloc1 ! (λ l₆. alloc1 ! (λ l₇. alloc1 ! (λ l₈. alloc1 ! (λ l₉. alloc1 ! (λ l₁₀. alloc1 ! (λ l₁₁. alloc1 ! (λ l₁₂. alloc1 ! (λ l₁₃. alloc1 ! (λ l₁₄. alloc1 ! (λ l₁₅. alloc1 ! (λ l₁₆. alloc1 ! (λ l₁₇. alloc1 ! (λ l₁₈. alloc0 ! $ params1 ! $
-        pass1 ! (init ! 34 refl (typedSz z gz)) $ pass1 ! (init ! 32 refl (tt, (tt, (record { fits = room₀ .0 }, tt)))) $ pass1 ! (init ! 30 refl (tt, (tt, (record { fits = room₁ .0 }, tt)))) $ pass1 ! (init ! 28 refl (tt, (tt, (record { fits = room₂ .0 }, tt)))) $ pass1 ! (init ! 26 refl (tt, (tt, (record { fits = room₃ .0 }, tt)))) $ pass1 ! (init ! 24 refl (typedEv e ge)) $ pass1 ! (init ! 22 refl (tt, record { fits = gn .1 })) $ pass0 ! $
-        move ! (39 ∷ []) $ fsplit ! $ move ! (1 ∷ []) $ fsplit ! $ move ! (1 ∷ []) $ fsplit ! $ move ! (1 ∷ []) $ fsplit ! $ move ! (1 ∷ []) $ fsplit ! $
-        move ! (44 ∷ []) $ split ! $ move ! (1 ∷ []) $ split ! $ move ! (1 ∷ []) $ split ! $ move ! (1 ∷ []) $ split ! $
-        keep ! (9 ∷ 4 ∷ 8 ∷ 3 ∷ 7 ∷ 2 ∷ 5 ∷ 0 ∷ 11 ∷ 12 ∷ 13 ∷ 14 ∷ 15 ∷ 16 ∷ 17 ∷ 18 ∷ 19 ∷ 20 ∷ 21 ∷ 22 ∷ 23 ∷ 24 ∷ 25 ∷ 26 ∷ 27 ∷ 28 ∷ 29 ∷ 30 ∷ 31 ∷ 32 ∷ 33 ∷ 34 ∷ 35 ∷ 36 ∷ 37 ∷ 38 ∷ 39 ∷ 40 ∷ 41 ∷ 42 ∷ 43 ∷ 44 ∷ 45 ∷ 46 ∷ 47 ∷ 48 ∷ []) $ assigns ! (agg ! (and-then ! (lit ! tt) (and-then ! (lit ! tt) (no-more !)))) (from ! (stop !)) (init ! 28 refl (typedAn (Refused 1) is₀)) $
-        assigns ! (of-opd ! (lit ! tt)) (from ! (stop !)) (init ! 26 refl (tt, record { fits = lit< tt })) $
+        alloc1 ! (λ l₀. alloc1 ! (λ l₁. alloc1 ! (λ l₂. alloc1 ! (λ l₃. alloc1 ! (λ l₄. alloc1 ! (λ l₅. alloc1 ! (λ l₆. alloc1 ! (λ l₇. alloc1 ! (λ l₈. alloc1 ! (λ l₉. alloc1 ! (λ l₁₀. alloc1 ! (λ l₁₁. alloc1 ! (λ l₁₂. alloc1 ! (λ l₁₃. alloc1 ! (λ l₁₄. alloc1 ! (λ l₁₅. alloc1 ! (λ l₁₆. alloc1 ! (λ l₁₇. alloc1 ! (λ l₁₈. alloc0 ! $ dies-apart ! 19 $ params1 ! $
+        pass1 ! (init ! 18 refl (typedSz z gz)) $ pass1 ! (init ! 17 refl (tt, (tt, (record { fits = room₀ .0 }, tt)))) $ pass1 ! (init ! 16 refl (tt, (tt, (record { fits = room₁ .0 }, tt)))) $ pass1 ! (init ! 15 refl (tt, (tt, (record { fits = room₂ .0 }, tt)))) $ pass1 ! (init ! 14 refl (tt, (tt, (record { fits = room₃ .0 }, tt)))) $ pass1 ! (init ! 13 refl (typedEv e ge)) $ pass1 ! (init ! 12 refl (tt, record { fits = gn .1 })) $ pass0 ! $
+        move ! (21 ∷ []) $ fsplit ! $ move ! (1 ∷ []) $ fsplit ! $ move ! (1 ∷ []) $ fsplit ! $ move ! (1 ∷ []) $ fsplit ! $ move ! (1 ∷ []) $ fsplit ! $
+        move ! (26 ∷ []) $ split ! $ move ! (1 ∷ []) $ split ! $ move ! (1 ∷ []) $ split ! $ move ! (1 ∷ []) $ split ! $
+        keep ! (9 ∷ 4 ∷ 8 ∷ 3 ∷ 7 ∷ 2 ∷ 5 ∷ 0 ∷ 12 ∷ 13 ∷ 14 ∷ 15 ∷ 16 ∷ 17 ∷ 18 ∷ 19 ∷ 20 ∷ 21 ∷ 22 ∷ 23 ∷ 24 ∷ 25 ∷ 26 ∷ 27 ∷ 28 ∷ 29 ∷ 30 ∷ 11 ∷ []) $ assigns ! (agg ! (and-then ! (lit ! tt) (and-then ! (lit ! tt) (no-more !)))) (from ! (stop !)) (init ! 18 refl (typedAn (Refused 1) is₀)) $
+        assigns ! (of-opd ! (lit ! tt)) (from ! (stop !)) (init ! 17 refl (tt, record { fits = lit< tt })) $
         looped l₀ l₁ l₂ l₃ l₄ l₅ l₆ l₇ l₈ l₉ l₁₀ l₁₁ l₁₂ l₁₃ l₁₄ l₁₅ l₁₆ l₁₇ l₁₈)))))))))))))))))))
 
 module _ {M : Type 1} (𝓤 : URA M) (H : Heap 𝓤) (A : Atoms 𝓤) (W : Given 𝓤 H A) (mem : Memory → SProp 𝓤) (run : Routine → Fun 𝓤) (𝓣 : Tables 𝓤 H) (known-step : Triple 𝓤 (𝓣 .C #step) (Of-step 𝓤 H A mem run)) where

@@ -17,9 +17,9 @@ use prog.Wp.{Heap, Env, Calls, Loops, WpFn, Tables}
 use ghost.Atoms.{Atoms}
 use contract.Monad.{Fun, fact, factI, fact-mono}
 use contract.Running.{givenOf, tables, tablesOf}
-use types.Kit.{Given, ‵, _⊛_, ⋆, runs, atRet, Sq, _$_, _∵_, !, qed, by, move, keep, split, join, fsplit, fjoin, suffices, frame, done}
+use types.Kit.{Given, Item, ‵, _⊛_, ⋆, runs, atRet, Sq, _$_, _∵_, !, qed, by, move, keep, split, join, fsplit, fjoin, suffices, frame, done}
 use types.Part.{agg, whole, sub, look-in}
-use types.Run.{look, init, forget, stop, hop, fld, from, load as reads, addr, and-then, no-more, assigns, land, returns, enter, alloc1, alloc0, params1, pass1, pass0, free1, free0}
+use types.Run.{look, init, forget, stop, hop, fld, from, load as reads, addr, and-then, no-more, assigns, land, returns, enter, alloc1, alloc0, params1, pass1, pass0}
 use sound.WpLaws.{FmC, fmOf, WpFn-mono}
 use denote.RattleType.{owns}
 use denote.Laws.{Is, Makes}
@@ -45,6 +45,7 @@ use Rattle.machine.specs.Slots.{Ready}
 use Rattle.machine.specs.Stepping.{within, partyOf, decideOf, finishOf, replyOf}
 use Rattle.machine.specs.Roles.{proposerAt, acceptorAt, decisionAt, finishedAt, stepAt, armOf, OfTable}
 use Rattle.model.specs.Records.{freshProposer, freshAcceptor, freshLearner}
+use Rattle.machine.proofs.Frees.{full, bare, dies-apart, frees-all}
 use Rattle.machine.proofs.Relending.{Slice, listAt}
 use Rattle.machine.proofs.CallsByValue.{calls-value}
 use Rattle.machine.proofs.CallsLending.{calls-shared, calls-lent}
@@ -282,82 +283,84 @@ module _ {M : Type 1} (𝓤 : URA M) (H : Heap 𝓤) (A : Atoms 𝓤) (W : Given
       abbrev En : Env 𝓤 H
       En = (An′.mir, l₀) ∷ (Sz′.mir, l₁) ∷ ((sliceTy (tyRef (named 0) mut (pointee (Ms.the-row .written)))), l₂) ∷ (Ev′.mir, l₃) ∷ (word, l₄) ∷ (Ms′.mir, l₅) ∷ (Dn′.mir, l₆) ∷ (byte, l₇) ∷ (byte, l₈) ∷ (Dn′.mir, l₉) ∷ (Ms′.mir, l₁₀) ∷ (Sd′.mir, l₁₁) ∷ ((tyRef erased imm (pointee (Ms.the-row .written))), l₁₂) ∷ ((sliceTy (tyRef erased imm (pointee (Ms.the-row .written)))), l₁₃) ∷ (tyUnit, l₁₄) ∷ ((tyRef erased mut (pointee (Ms.the-row .written))), l₁₅) ∷ ((sliceTy (tyRef erased mut (pointee (Ms.the-row .written)))), l₁₆) ∷ ((tyRef erased mut (pointee (Ms.the-row .written))), l₁₇) ∷ ((sliceTy (tyRef erased mut (pointee (Ms.the-row .written)))), l₁₈) ∷ []
 
+      abbrev Dies : Item 𝓤
+      Dies = ‵ (fdies (sliceTy (tyRef erased mut (pointee (Ms.the-row .written)))) l₁₈) ⊛ ‵ (fdies (tyRef erased mut (pointee (Ms.the-row .written))) l₁₇) ⊛ ‵ (fdies (sliceTy (tyRef erased mut (pointee (Ms.the-row .written)))) l₁₆) ⊛ ‵ (fdies (tyRef erased mut (pointee (Ms.the-row .written))) l₁₅) ⊛ ‵ (fdies tyUnit l₁₄) ⊛ ‵ (fdies (sliceTy (tyRef erased imm (pointee (Ms.the-row .written)))) l₁₃) ⊛ ‵ (fdies (tyRef erased imm (pointee (Ms.the-row .written))) l₁₂) ⊛ ‵ (fdies Sd′.mir l₁₁) ⊛ ‵ (fdies Ms′.mir l₁₀) ⊛ ‵ (fdies Dn′.mir l₉) ⊛ ‵ (fdies byte l₈) ⊛ ‵ (fdies byte l₇) ⊛ ‵ (fdies Dn′.mir l₆) ⊛ ‵ (fdies Ms′.mir l₅) ⊛ ‵ (fdies word l₄) ⊛ ‵ (fdies Ev′.mir l₃) ⊛ ‵ (fdies (sliceTy (tyRef (named 0) mut (pointee (Ms.the-row .written)))) l₂) ⊛ ‵ (fdies Sz′.mir l₁) ⊛ ‵ (fdies An′.mir l₀) ⊛ ‵ ftrue
+
       part-5 : (g6 : Is Dn.the-row d (valsDn d)) → (g7 : Is u8 (d .need) (uint-vals w8 (d .need))) → (g8 : Is u8 (lacking (d .need) t) (uint-vals w8 (lacking (d .need) t))) → (g9 : Is Dn.the-row f (valsDn f)) → (g10 : Is Ms.the-row m′ (valsMs m′)) → (g11 : Is Sd.the-row (f .change .send) (valsSd (f .change .send))) → (e18 : length t′ ≡ n₀) → Sq W (‵ (Slice Ms.the-row κ₀ γ₀ b₀ o₀ n₀ t′) ∷ ‵ (flft κ₀ q₀)
-          ∷ ‵ (froom (sliceTy (tyRef erased mut (pointee (Ms.the-row .written)))) l₁₈ 0) ∷ ‵ (fdies (sliceTy (tyRef erased mut (pointee (Ms.the-row .written)))) l₁₈) ∷ ‵ (froom (tyRef erased mut (pointee (Ms.the-row .written))) l₁₇ 0) ∷ ‵ (fdies (tyRef erased mut (pointee (Ms.the-row .written))) l₁₇) ∷ ‵ (froom (sliceTy (tyRef erased mut (pointee (Ms.the-row .written)))) l₁₆ 0) ∷ ‵ (fdies (sliceTy (tyRef erased mut (pointee (Ms.the-row .written)))) l₁₆) ∷ ‵ (froom (tyRef erased mut (pointee (Ms.the-row .written))) l₁₅ 0) ∷ ‵ (fdies (tyRef erased mut (pointee (Ms.the-row .written))) l₁₅) ∷ ‵ (froom tyUnit l₁₄ 0) ∷ ‵ (fdies tyUnit l₁₄) ∷ ‵ (froom (sliceTy (tyRef erased imm (pointee (Ms.the-row .written)))) l₁₃ 0) ∷ ‵ (fdies (sliceTy (tyRef erased imm (pointee (Ms.the-row .written)))) l₁₃) ∷ ‵ (froom (tyRef erased imm (pointee (Ms.the-row .written))) l₁₂ 0) ∷ ‵ (fdies (tyRef erased imm (pointee (Ms.the-row .written))) l₁₂) ∷ ‵ (fat fullShare Sd′.mir l₁₁ 0 (valSd (f .change .send))) ∷ ‵ (fdies Sd′.mir l₁₁) ∷ ‵ (fat fullShare Ms′.mir l₁₀ 0 (valMs m′)) ∷ ‵ (fdies Ms′.mir l₁₀) ∷ ‵ (fat fullShare Dn′.mir l₉ 0 (valDn f)) ∷ ‵ (fdies Dn′.mir l₉) ∷ ‵ (fat fullShare byte l₈ 0 (vint w8 (lacking (d .need) t))) ∷ ‵ (fdies byte l₈) ∷ ‵ (fat fullShare byte l₇ 0 (vint w8 (d .need))) ∷ ‵ (fdies byte l₇) ∷ ‵ (fat fullShare Dn′.mir l₆ 0 (valDn d)) ∷ ‵ (fdies Dn′.mir l₆) ∷ ‵ (fat fullShare Ms′.mir l₅ 0 (valMs m)) ∷ ‵ (fdies Ms′.mir l₅) ∷ ‵ (fat fullShare word l₄ 0 (vint w64 k)) ∷ ‵ (fdies word l₄) ∷ ‵ (fat fullShare Ev′.mir l₃ 0 (valEv e)) ∷ ‵ (fdies Ev′.mir l₃) ∷ ‵ (fat fullShare (sliceTy (tyRef (named 0) mut (pointee (Ms.the-row .written)))) l₂ 0 s₀) ∷ ‵ (fdies (sliceTy (tyRef (named 0) mut (pointee (Ms.the-row .written)))) l₂) ∷ ‵ (fat fullShare Sz′.mir l₁ 0 (valSz z)) ∷ ‵ (fdies Sz′.mir l₁) ∷ ‵ (froom An′.mir l₀ 0) ∷ ‵ (fdies An′.mir l₀) ∷ []) (runs C Λ En pieces.t-15 (atRet En Post))
+          ∷ ‵ (froom (sliceTy (tyRef erased mut (pointee (Ms.the-row .written)))) l₁₈ 0) ∷ ‵ (froom (tyRef erased mut (pointee (Ms.the-row .written))) l₁₇ 0) ∷ ‵ (froom (sliceTy (tyRef erased mut (pointee (Ms.the-row .written)))) l₁₆ 0) ∷ ‵ (froom (tyRef erased mut (pointee (Ms.the-row .written))) l₁₅ 0) ∷ ‵ (froom tyUnit l₁₄ 0) ∷ ‵ (froom (sliceTy (tyRef erased imm (pointee (Ms.the-row .written)))) l₁₃ 0) ∷ ‵ (froom (tyRef erased imm (pointee (Ms.the-row .written))) l₁₂ 0) ∷ ‵ (fat fullShare Sd′.mir l₁₁ 0 (valSd (f .change .send))) ∷ ‵ (fat fullShare Ms′.mir l₁₀ 0 (valMs m′)) ∷ ‵ (fat fullShare Dn′.mir l₉ 0 (valDn f)) ∷ ‵ (fat fullShare byte l₈ 0 (vint w8 (lacking (d .need) t))) ∷ ‵ (fat fullShare byte l₇ 0 (vint w8 (d .need))) ∷ ‵ (fat fullShare Dn′.mir l₆ 0 (valDn d)) ∷ ‵ (fat fullShare Ms′.mir l₅ 0 (valMs m)) ∷ ‵ (fat fullShare word l₄ 0 (vint w64 k)) ∷ ‵ (fat fullShare Ev′.mir l₃ 0 (valEv e)) ∷ ‵ (fat fullShare (sliceTy (tyRef (named 0) mut (pointee (Ms.the-row .written)))) l₂ 0 s₀) ∷ ‵ (fat fullShare Sz′.mir l₁ 0 (valSz z)) ∷ ‵ (froom An′.mir l₀ 0) ∷ Dies ∷ []) (runs C Λ En pieces.t-15 (atRet En Post))
       part-5 g6 g7 g8 g9 g10 g11 e18 =
           calls-value ! fm (reply.signature .params) An.the-row (reply.ended .kept) (reply.clauses 𝓤 H A mem run) known-reply (valsSz, (valsEv, (valsDn, (valsMs, tt)))) (makesSz, (makesEv, (makesDn, (makesMs, tt)))) valAn (EL.tells An.the-type An′.the-laws)
-          (z, (e, (f, (m, tt)))) (gz, (ge, (g9, (gm, tt)))) tt (factI 𝓤 _ (emp 𝓤) (quiet-finished z e k m [] [] [] t (not-of 0 3 (armOf e m) (fit .0) tt) .0)) r₀ (λ r e′. id⊢ 𝓤 (fact 𝓤 (r ≡ r₀))) (and-then ! (reads ! (from ! (stop !)) (look ! 37 refl)) (and-then ! (reads ! (from ! (stop !)) (look ! 33 refl)) (and-then ! (reads ! (from ! (stop !)) (look ! 21 refl)) (and-then ! (reads ! (from ! (stop !)) (look ! 29 refl)) (no-more !))))) (λ g0.
-          land ! (from ! (stop !)) (init ! 38 refl (typedAn r₀ g0)) $
-          returns ! (look ! 38 refl) $ forget ! 16 refl $ forget ! 18 refl $ forget ! 20 refl $ forget ! 22 refl $ forget ! 24 refl $ forget ! 26 refl $ forget ! 28 refl $ forget ! 30 refl $ forget ! 32 refl $ forget ! 34 refl $ forget ! 36 refl $ forget ! 38 refl $
-          move ! (38 ∷ 39 ∷ []) $ free1 ! $ move ! (36 ∷ 37 ∷ []) $ free1 ! $ move ! (34 ∷ 35 ∷ []) $ free1 ! $ move ! (32 ∷ 33 ∷ []) $ free1 ! $ move ! (30 ∷ 31 ∷ []) $ free1 ! $ move ! (28 ∷ 29 ∷ []) $ free1 ! $ move ! (26 ∷ 27 ∷ []) $ free1 ! $ move ! (24 ∷ 25 ∷ []) $ free1 ! $ move ! (22 ∷ 23 ∷ []) $ free1 ! $ move ! (20 ∷ 21 ∷ []) $ free1 ! $ move ! (18 ∷ 19 ∷ []) $ free1 ! $ move ! (16 ∷ 17 ∷ []) $ free1 ! $ move ! (14 ∷ 15 ∷ []) $ free1 ! $ move ! (12 ∷ 13 ∷ []) $ free1 ! $ move ! (10 ∷ 11 ∷ []) $ free1 ! $ move ! (8 ∷ 9 ∷ []) $ free1 ! $ move ! (6 ∷ 7 ∷ []) $ free1 ! $ move ! (4 ∷ 5 ∷ []) $ free1 ! $ move ! (2 ∷ 3 ∷ []) $ free1 ! $ free0 ! $
+          (z, (e, (f, (m, tt)))) (gz, (ge, (g9, (gm, tt)))) tt (factI 𝓤 _ (emp 𝓤) (quiet-finished z e k m [] [] [] t (not-of 0 3 (armOf e m) (fit .0) tt) .0)) r₀ (λ r e′. id⊢ 𝓤 (fact 𝓤 (r ≡ r₀))) (and-then ! (reads ! (from ! (stop !)) (look ! 20 refl)) (and-then ! (reads ! (from ! (stop !)) (look ! 18 refl)) (and-then ! (reads ! (from ! (stop !)) (look ! 12 refl)) (and-then ! (reads ! (from ! (stop !)) (look ! 16 refl)) (no-more !))))) (λ g0.
+          land ! (from ! (stop !)) (init ! 20 refl (typedAn r₀ g0)) $
+          returns ! (look ! 20 refl) $ frees-all ! 2 (bare _ _ ∷ bare _ _ ∷ bare _ _ ∷ bare _ _ ∷ bare _ _ ∷ bare _ _ ∷ bare _ _ ∷ full _ _ _ ∷ full _ _ _ ∷ full _ _ _ ∷ full _ _ _ ∷ full _ _ _ ∷ full _ _ _ ∷ full _ _ _ ∷ full _ _ _ ∷ full _ _ _ ∷ full _ _ _ ∷ full _ _ _ ∷ full _ _ _ ∷ []) refl refl $
           keep ! (0 ∷ 1 ∷ []) $ by ! (exits g0 e18))
 
       part-4 : (g6 : Is Dn.the-row d (valsDn d)) → (g7 : Is u8 (d .need) (uint-vals w8 (d .need))) → (g8 : Is u8 (lacking (d .need) t) (uint-vals w8 (lacking (d .need) t))) → (g9 : Is Dn.the-row f (valsDn f)) → (g10 : Is Ms.the-row m′ (valsMs m′)) → (e16 : length t₁ ≡ n₀) → Sq W (‵ (Slice Ms.the-row κ₀ γ₀ b₀ o₀ n₀ t₁) ∷ ‵ (flft κ₀ q₀)
-          ∷ ‵ (froom (sliceTy (tyRef erased mut (pointee (Ms.the-row .written)))) l₁₈ 0) ∷ ‵ (fdies (sliceTy (tyRef erased mut (pointee (Ms.the-row .written)))) l₁₈) ∷ ‵ (froom (tyRef erased mut (pointee (Ms.the-row .written))) l₁₇ 0) ∷ ‵ (fdies (tyRef erased mut (pointee (Ms.the-row .written))) l₁₇) ∷ ‵ (froom (sliceTy (tyRef erased mut (pointee (Ms.the-row .written)))) l₁₆ 0) ∷ ‵ (fdies (sliceTy (tyRef erased mut (pointee (Ms.the-row .written)))) l₁₆) ∷ ‵ (froom (tyRef erased mut (pointee (Ms.the-row .written))) l₁₅ 0) ∷ ‵ (fdies (tyRef erased mut (pointee (Ms.the-row .written))) l₁₅) ∷ ‵ (froom tyUnit l₁₄ 0) ∷ ‵ (fdies tyUnit l₁₄) ∷ ‵ (froom (sliceTy (tyRef erased imm (pointee (Ms.the-row .written)))) l₁₃ 0) ∷ ‵ (fdies (sliceTy (tyRef erased imm (pointee (Ms.the-row .written)))) l₁₃) ∷ ‵ (froom (tyRef erased imm (pointee (Ms.the-row .written))) l₁₂ 0) ∷ ‵ (fdies (tyRef erased imm (pointee (Ms.the-row .written))) l₁₂) ∷ ‵ (froom Sd′.mir l₁₁ 0) ∷ ‵ (fdies Sd′.mir l₁₁) ∷ ‵ (fat fullShare Ms′.mir l₁₀ 0 (valMs m′)) ∷ ‵ (fdies Ms′.mir l₁₀) ∷ ‵ (fat fullShare Dn′.mir l₉ 0 (valDn f)) ∷ ‵ (fdies Dn′.mir l₉) ∷ ‵ (fat fullShare byte l₈ 0 (vint w8 (lacking (d .need) t))) ∷ ‵ (fdies byte l₈) ∷ ‵ (fat fullShare byte l₇ 0 (vint w8 (d .need))) ∷ ‵ (fdies byte l₇) ∷ ‵ (fat fullShare Dn′.mir l₆ 0 (valDn d)) ∷ ‵ (fdies Dn′.mir l₆) ∷ ‵ (fat fullShare Ms′.mir l₅ 0 (valMs m)) ∷ ‵ (fdies Ms′.mir l₅) ∷ ‵ (fat fullShare word l₄ 0 (vint w64 k)) ∷ ‵ (fdies word l₄) ∷ ‵ (fat fullShare Ev′.mir l₃ 0 (valEv e)) ∷ ‵ (fdies Ev′.mir l₃) ∷ ‵ (fat fullShare (sliceTy (tyRef (named 0) mut (pointee (Ms.the-row .written)))) l₂ 0 s₀) ∷ ‵ (fdies (sliceTy (tyRef (named 0) mut (pointee (Ms.the-row .written)))) l₂) ∷ ‵ (fat fullShare Sz′.mir l₁ 0 (valSz z)) ∷ ‵ (fdies Sz′.mir l₁) ∷ ‵ (froom An′.mir l₀ 0) ∷ ‵ (fdies An′.mir l₀) ∷ []) (runs C Λ En pieces.t-11 (atRet En Post))
+          ∷ ‵ (froom (sliceTy (tyRef erased mut (pointee (Ms.the-row .written)))) l₁₈ 0) ∷ ‵ (froom (tyRef erased mut (pointee (Ms.the-row .written))) l₁₇ 0) ∷ ‵ (froom (sliceTy (tyRef erased mut (pointee (Ms.the-row .written)))) l₁₆ 0) ∷ ‵ (froom (tyRef erased mut (pointee (Ms.the-row .written))) l₁₅ 0) ∷ ‵ (froom tyUnit l₁₄ 0) ∷ ‵ (froom (sliceTy (tyRef erased imm (pointee (Ms.the-row .written)))) l₁₃ 0) ∷ ‵ (froom (tyRef erased imm (pointee (Ms.the-row .written))) l₁₂ 0) ∷ ‵ (froom Sd′.mir l₁₁ 0) ∷ ‵ (fat fullShare Ms′.mir l₁₀ 0 (valMs m′)) ∷ ‵ (fat fullShare Dn′.mir l₉ 0 (valDn f)) ∷ ‵ (fat fullShare byte l₈ 0 (vint w8 (lacking (d .need) t))) ∷ ‵ (fat fullShare byte l₇ 0 (vint w8 (d .need))) ∷ ‵ (fat fullShare Dn′.mir l₆ 0 (valDn d)) ∷ ‵ (fat fullShare Ms′.mir l₅ 0 (valMs m)) ∷ ‵ (fat fullShare word l₄ 0 (vint w64 k)) ∷ ‵ (fat fullShare Ev′.mir l₃ 0 (valEv e)) ∷ ‵ (fat fullShare (sliceTy (tyRef (named 0) mut (pointee (Ms.the-row .written)))) l₂ 0 s₀) ∷ ‵ (fat fullShare Sz′.mir l₁ 0 (valSz z)) ∷ ‵ (froom An′.mir l₀ 0) ∷ Dies ∷ []) (runs C Λ En pieces.t-11 (atRet En Post))
       part-4 g6 g7 g8 g9 g10 e16 =
           calls-value ! fm (send-in.signature .params) Sd.the-row (send-in.ended .kept) (send-in.clauses 𝓤 H A mem run) known-send-in (valsDn, tt) (makesDn, tt) valSd (LL.tells Sd.the-type Sd′.the-laws)
-          (f, tt) (g9, tt) tt (id⊢ 𝓤 (emp 𝓤)) (f .change .send) (λ r e′. id⊢ 𝓤 (fact 𝓤 (r ≡ (f .change .send)))) (and-then ! (reads ! (from ! (stop !)) (look ! 21 refl)) (no-more !)) (λ g11.
-          land ! (from ! (stop !)) (init ! 16 refl (typedSd (f .change .send) g11)) $
-          assigns ! (addr ! (from ! (fld ! refl (hop ! (look-in ! 34 (sub ! 0 refl (whole !))) (stop !))))) (from ! (stop !)) (init ! 4 refl (tt, tt)) $
-          assigns ! (agg ! (and-then ! (reads ! (from ! (stop !)) (look ! 4 refl)) (and-then ! (reads ! (from ! (fld ! refl (stop !))) (look-in ! 34 (sub ! 1 refl (whole !)))) (no-more !)))) (from ! (stop !)) (init ! 2 refl (tt, (tt, (record { fits = room₀ .0 }, tt)))) $
+          (f, tt) (g9, tt) tt (id⊢ 𝓤 (emp 𝓤)) (f .change .send) (λ r e′. id⊢ 𝓤 (fact 𝓤 (r ≡ (f .change .send)))) (and-then ! (reads ! (from ! (stop !)) (look ! 12 refl)) (no-more !)) (λ g11.
+          land ! (from ! (stop !)) (init ! 9 refl (typedSd (f .change .send) g11)) $
+          assigns ! (addr ! (from ! (fld ! refl (hop ! (look-in ! 18 (sub ! 0 refl (whole !))) (stop !))))) (from ! (stop !)) (init ! 3 refl (tt, tt)) $
+          assigns ! (agg ! (and-then ! (reads ! (from ! (stop !)) (look ! 3 refl)) (and-then ! (reads ! (from ! (fld ! refl (stop !))) (look-in ! 18 (sub ! 1 refl (whole !)))) (no-more !)))) (from ! (stop !)) (init ! 2 refl (tt, (tt, (record { fits = room₀ .0 }, tt)))) $
           calls-lent ! fm Ms.the-row (plain (λ _. Sd.the-row) ∷ []) Nothing (yes, tt) (λ _. vunit) nothing-tells b₀ o₀ n₀ t₁ e16 (λ ν. (valsSd, tt)) (λ ν. (makesSd, tt)) (λ ν. ((f .change .send), tt)) (λ ν. (g11, tt))
-          (send-all.clauses 𝓤 H A mem run) known-send-all room₀ tt t′ (λ ν δ. tt) (λ ν δ. factI 𝓤 _ (emp 𝓤) ready) (λ ν δ r ws. fact-mono 𝓤 (ws .0 ≡ t′) ((r ≡ tt) × (ws .0 ≡ t′)) (λ e′. (refl, e′))) (λ ν δ. (and-then ! (reads ! (from ! (stop !)) (look ! 2 refl)) (and-then ! (reads ! (from ! (stop !)) (look ! 16 refl)) (no-more !)))) (λ _ e18.
-          land ! (from ! (stop !)) (init ! 10 refl (tt, tt)) $
-          forget ! 10 refl $
-          forget ! 4 refl $
+          (send-all.clauses 𝓤 H A mem run) known-send-all room₀ tt t′ (λ ν δ. tt) (λ ν δ. factI 𝓤 _ (emp 𝓤) ready) (λ ν δ r ws. fact-mono 𝓤 (ws .0 ≡ t′) ((r ≡ tt) × (ws .0 ≡ t′)) (λ e′. (refl, e′))) (λ ν δ. (and-then ! (reads ! (from ! (stop !)) (look ! 2 refl)) (and-then ! (reads ! (from ! (stop !)) (look ! 9 refl)) (no-more !)))) (λ _ e18.
+          land ! (from ! (stop !)) (init ! 6 refl (tt, tt)) $
+          forget ! 6 refl $
+          forget ! 3 refl $
           forget ! 2 refl $
           part-5 g6 g7 g8 g9 g10 g11 e18))
 
       part-3 : (g6 : Is Dn.the-row d (valsDn d)) → (g7 : Is u8 (d .need) (uint-vals w8 (d .need))) → (g8 : Is u8 (lacking (d .need) t) (uint-vals w8 (lacking (d .need) t))) → (g9 : Is Dn.the-row f (valsDn f)) → Sq W (‵ (Slice Ms.the-row κ₀ γ₀ b₀ o₀ n₀ t) ∷ ‵ (flft κ₀ q₀)
-          ∷ ‵ (froom (sliceTy (tyRef erased mut (pointee (Ms.the-row .written)))) l₁₈ 0) ∷ ‵ (fdies (sliceTy (tyRef erased mut (pointee (Ms.the-row .written)))) l₁₈) ∷ ‵ (froom (tyRef erased mut (pointee (Ms.the-row .written))) l₁₇ 0) ∷ ‵ (fdies (tyRef erased mut (pointee (Ms.the-row .written))) l₁₇) ∷ ‵ (froom (sliceTy (tyRef erased mut (pointee (Ms.the-row .written)))) l₁₆ 0) ∷ ‵ (fdies (sliceTy (tyRef erased mut (pointee (Ms.the-row .written)))) l₁₆) ∷ ‵ (froom (tyRef erased mut (pointee (Ms.the-row .written))) l₁₅ 0) ∷ ‵ (fdies (tyRef erased mut (pointee (Ms.the-row .written))) l₁₅) ∷ ‵ (froom tyUnit l₁₄ 0) ∷ ‵ (fdies tyUnit l₁₄) ∷ ‵ (froom (sliceTy (tyRef erased imm (pointee (Ms.the-row .written)))) l₁₃ 0) ∷ ‵ (fdies (sliceTy (tyRef erased imm (pointee (Ms.the-row .written)))) l₁₃) ∷ ‵ (froom (tyRef erased imm (pointee (Ms.the-row .written))) l₁₂ 0) ∷ ‵ (fdies (tyRef erased imm (pointee (Ms.the-row .written))) l₁₂) ∷ ‵ (froom Sd′.mir l₁₁ 0) ∷ ‵ (fdies Sd′.mir l₁₁) ∷ ‵ (froom Ms′.mir l₁₀ 0) ∷ ‵ (fdies Ms′.mir l₁₀) ∷ ‵ (fat fullShare Dn′.mir l₉ 0 (valDn f)) ∷ ‵ (fdies Dn′.mir l₉) ∷ ‵ (fat fullShare byte l₈ 0 (vint w8 (lacking (d .need) t))) ∷ ‵ (fdies byte l₈) ∷ ‵ (fat fullShare byte l₇ 0 (vint w8 (d .need))) ∷ ‵ (fdies byte l₇) ∷ ‵ (fat fullShare Dn′.mir l₆ 0 (valDn d)) ∷ ‵ (fdies Dn′.mir l₆) ∷ ‵ (fat fullShare Ms′.mir l₅ 0 (valMs m)) ∷ ‵ (fdies Ms′.mir l₅) ∷ ‵ (fat fullShare word l₄ 0 (vint w64 k)) ∷ ‵ (fdies word l₄) ∷ ‵ (fat fullShare Ev′.mir l₃ 0 (valEv e)) ∷ ‵ (fdies Ev′.mir l₃) ∷ ‵ (fat fullShare (sliceTy (tyRef (named 0) mut (pointee (Ms.the-row .written)))) l₂ 0 s₀) ∷ ‵ (fdies (sliceTy (tyRef (named 0) mut (pointee (Ms.the-row .written)))) l₂) ∷ ‵ (fat fullShare Sz′.mir l₁ 0 (valSz z)) ∷ ‵ (fdies Sz′.mir l₁) ∷ ‵ (froom An′.mir l₀ 0) ∷ ‵ (fdies An′.mir l₀) ∷ []) (runs C Λ En pieces.t-7 (atRet En Post))
+          ∷ ‵ (froom (sliceTy (tyRef erased mut (pointee (Ms.the-row .written)))) l₁₈ 0) ∷ ‵ (froom (tyRef erased mut (pointee (Ms.the-row .written))) l₁₇ 0) ∷ ‵ (froom (sliceTy (tyRef erased mut (pointee (Ms.the-row .written)))) l₁₆ 0) ∷ ‵ (froom (tyRef erased mut (pointee (Ms.the-row .written))) l₁₅ 0) ∷ ‵ (froom tyUnit l₁₄ 0) ∷ ‵ (froom (sliceTy (tyRef erased imm (pointee (Ms.the-row .written)))) l₁₃ 0) ∷ ‵ (froom (tyRef erased imm (pointee (Ms.the-row .written))) l₁₂ 0) ∷ ‵ (froom Sd′.mir l₁₁ 0) ∷ ‵ (froom Ms′.mir l₁₀ 0) ∷ ‵ (fat fullShare Dn′.mir l₉ 0 (valDn f)) ∷ ‵ (fat fullShare byte l₈ 0 (vint w8 (lacking (d .need) t))) ∷ ‵ (fat fullShare byte l₇ 0 (vint w8 (d .need))) ∷ ‵ (fat fullShare Dn′.mir l₆ 0 (valDn d)) ∷ ‵ (fat fullShare Ms′.mir l₅ 0 (valMs m)) ∷ ‵ (fat fullShare word l₄ 0 (vint w64 k)) ∷ ‵ (fat fullShare Ev′.mir l₃ 0 (valEv e)) ∷ ‵ (fat fullShare (sliceTy (tyRef (named 0) mut (pointee (Ms.the-row .written)))) l₂ 0 s₀) ∷ ‵ (fat fullShare Sz′.mir l₁ 0 (valSz z)) ∷ ‵ (froom An′.mir l₀ 0) ∷ Dies ∷ []) (runs C Λ En pieces.t-7 (atRet En Post))
       part-3 g6 g7 g8 g9 =
           calls-value ! fm (slot-in.signature .params) Ms.the-row (slot-in.ended .kept) (slot-in.clauses 𝓤 H A mem run) known-slot-in (valsDn, (valsMs, tt)) (makesDn, (makesMs, tt)) valMs (LL.tells Ms.the-type Ms′.the-laws)
-          (f, (m, tt)) (g9, (gm, tt)) tt (id⊢ 𝓤 (emp 𝓤)) m′ (λ r e′. id⊢ 𝓤 (fact 𝓤 (r ≡ m′))) (and-then ! (reads ! (from ! (stop !)) (look ! 21 refl)) (and-then ! (reads ! (from ! (stop !)) (look ! 29 refl)) (no-more !))) (λ g10.
-          land ! (from ! (stop !)) (init ! 18 refl (typedMs m′ g10)) $
-          assigns ! (addr ! (from ! (fld ! refl (hop ! (look-in ! 34 (sub ! 0 refl (whole !))) (stop !))))) (from ! (stop !)) (init ! 8 refl (tt, tt)) $
-          assigns ! (agg ! (and-then ! (reads ! (from ! (stop !)) (look ! 8 refl)) (and-then ! (reads ! (from ! (fld ! refl (stop !))) (look-in ! 34 (sub ! 1 refl (whole !)))) (no-more !)))) (from ! (stop !)) (init ! 6 refl (tt, (tt, (record { fits = room₀ .0 }, tt)))) $
+          (f, (m, tt)) (g9, (gm, tt)) tt (id⊢ 𝓤 (emp 𝓤)) m′ (λ r e′. id⊢ 𝓤 (fact 𝓤 (r ≡ m′))) (and-then ! (reads ! (from ! (stop !)) (look ! 12 refl)) (and-then ! (reads ! (from ! (stop !)) (look ! 16 refl)) (no-more !))) (λ g10.
+          land ! (from ! (stop !)) (init ! 10 refl (typedMs m′ g10)) $
+          assigns ! (addr ! (from ! (fld ! refl (hop ! (look-in ! 18 (sub ! 0 refl (whole !))) (stop !))))) (from ! (stop !)) (init ! 5 refl (tt, tt)) $
+          assigns ! (agg ! (and-then ! (reads ! (from ! (stop !)) (look ! 5 refl)) (and-then ! (reads ! (from ! (fld ! refl (stop !))) (look-in ! 18 (sub ! 1 refl (whole !)))) (no-more !)))) (from ! (stop !)) (init ! 4 refl (tt, (tt, (record { fits = room₀ .0 }, tt)))) $
           calls-lent ! fm Ms.the-row (plain (λ _. usize) ∷ plain (λ _. Ms.the-row) ∷ []) Nothing (yes, (yes, tt)) (λ _. vunit) nothing-tells b₀ o₀ n₀ t refl (λ ν. (uint-vals w64, (valsMs, tt))) (λ ν. (uint-makes 𝓤 H A W w64, (makesMs, tt))) (λ ν. (k, (m′, tt))) (λ ν. (gk, (g10, tt)))
-          (store-message.clauses 𝓤 H A mem run) known-store-message room₀ tt t₁ (λ ν δ. tt) (λ ν δ. factI 𝓤 _ (emp 𝓤) in-k) (λ ν δ r ws. fact-mono 𝓤 (ws .0 ≡ t₁) ((r ≡ tt) × (ws .0 ≡ t₁)) (λ e′. (refl, e′))) (λ ν δ. (and-then ! (reads ! (from ! (stop !)) (look ! 6 refl)) (and-then ! (reads ! (from ! (stop !)) (look ! 30 refl)) (and-then ! (reads ! (from ! (stop !)) (look ! 18 refl)) (no-more !))))) (λ _ e16.
-          land ! (from ! (stop !)) (init ! 10 refl (tt, tt)) $
-          forget ! 10 refl $
-          forget ! 8 refl $
+          (store-message.clauses 𝓤 H A mem run) known-store-message room₀ tt t₁ (λ ν δ. tt) (λ ν δ. factI 𝓤 _ (emp 𝓤) in-k) (λ ν δ r ws. fact-mono 𝓤 (ws .0 ≡ t₁) ((r ≡ tt) × (ws .0 ≡ t₁)) (λ e′. (refl, e′))) (λ ν δ. (and-then ! (reads ! (from ! (stop !)) (look ! 4 refl)) (and-then ! (reads ! (from ! (stop !)) (look ! 16 refl)) (and-then ! (reads ! (from ! (stop !)) (look ! 10 refl)) (no-more !))))) (λ _ e16.
+          land ! (from ! (stop !)) (init ! 6 refl (tt, tt)) $
           forget ! 6 refl $
+          forget ! 5 refl $
+          forget ! 4 refl $
           part-4 g6 g7 g8 g9 g10 e16))
 
       part-2 : (g6 : Is Dn.the-row d (valsDn d)) → (g7 : Is u8 (d .need) (uint-vals w8 (d .need))) → Sq W (‵ (Slice Ms.the-row κ₀ γ₀ b₀ o₀ n₀ t) ∷ ‵ (flft κ₀ q₀)
-          ∷ ‵ (froom (sliceTy (tyRef erased mut (pointee (Ms.the-row .written)))) l₁₈ 0) ∷ ‵ (fdies (sliceTy (tyRef erased mut (pointee (Ms.the-row .written)))) l₁₈) ∷ ‵ (froom (tyRef erased mut (pointee (Ms.the-row .written))) l₁₇ 0) ∷ ‵ (fdies (tyRef erased mut (pointee (Ms.the-row .written))) l₁₇) ∷ ‵ (froom (sliceTy (tyRef erased mut (pointee (Ms.the-row .written)))) l₁₆ 0) ∷ ‵ (fdies (sliceTy (tyRef erased mut (pointee (Ms.the-row .written)))) l₁₆) ∷ ‵ (froom (tyRef erased mut (pointee (Ms.the-row .written))) l₁₅ 0) ∷ ‵ (fdies (tyRef erased mut (pointee (Ms.the-row .written))) l₁₅) ∷ ‵ (froom tyUnit l₁₄ 0) ∷ ‵ (fdies tyUnit l₁₄) ∷ ‵ (froom (sliceTy (tyRef erased imm (pointee (Ms.the-row .written)))) l₁₃ 0) ∷ ‵ (fdies (sliceTy (tyRef erased imm (pointee (Ms.the-row .written)))) l₁₃) ∷ ‵ (froom (tyRef erased imm (pointee (Ms.the-row .written))) l₁₂ 0) ∷ ‵ (fdies (tyRef erased imm (pointee (Ms.the-row .written))) l₁₂) ∷ ‵ (froom Sd′.mir l₁₁ 0) ∷ ‵ (fdies Sd′.mir l₁₁) ∷ ‵ (froom Ms′.mir l₁₀ 0) ∷ ‵ (fdies Ms′.mir l₁₀) ∷ ‵ (froom Dn′.mir l₉ 0) ∷ ‵ (fdies Dn′.mir l₉) ∷ ‵ (froom byte l₈ 0) ∷ ‵ (fdies byte l₈) ∷ ‵ (fat fullShare byte l₇ 0 (vint w8 (d .need))) ∷ ‵ (fdies byte l₇) ∷ ‵ (fat fullShare Dn′.mir l₆ 0 (valDn d)) ∷ ‵ (fdies Dn′.mir l₆) ∷ ‵ (fat fullShare Ms′.mir l₅ 0 (valMs m)) ∷ ‵ (fdies Ms′.mir l₅) ∷ ‵ (fat fullShare word l₄ 0 (vint w64 k)) ∷ ‵ (fdies word l₄) ∷ ‵ (fat fullShare Ev′.mir l₃ 0 (valEv e)) ∷ ‵ (fdies Ev′.mir l₃) ∷ ‵ (fat fullShare (sliceTy (tyRef (named 0) mut (pointee (Ms.the-row .written)))) l₂ 0 s₀) ∷ ‵ (fdies (sliceTy (tyRef (named 0) mut (pointee (Ms.the-row .written)))) l₂) ∷ ‵ (fat fullShare Sz′.mir l₁ 0 (valSz z)) ∷ ‵ (fdies Sz′.mir l₁) ∷ ‵ (froom An′.mir l₀ 0) ∷ ‵ (fdies An′.mir l₀) ∷ []) (runs C Λ En pieces.t-3 (atRet En Post))
+          ∷ ‵ (froom (sliceTy (tyRef erased mut (pointee (Ms.the-row .written)))) l₁₈ 0) ∷ ‵ (froom (tyRef erased mut (pointee (Ms.the-row .written))) l₁₇ 0) ∷ ‵ (froom (sliceTy (tyRef erased mut (pointee (Ms.the-row .written)))) l₁₆ 0) ∷ ‵ (froom (tyRef erased mut (pointee (Ms.the-row .written))) l₁₅ 0) ∷ ‵ (froom tyUnit l₁₄ 0) ∷ ‵ (froom (sliceTy (tyRef erased imm (pointee (Ms.the-row .written)))) l₁₃ 0) ∷ ‵ (froom (tyRef erased imm (pointee (Ms.the-row .written))) l₁₂ 0) ∷ ‵ (froom Sd′.mir l₁₁ 0) ∷ ‵ (froom Ms′.mir l₁₀ 0) ∷ ‵ (froom Dn′.mir l₉ 0) ∷ ‵ (froom byte l₈ 0) ∷ ‵ (fat fullShare byte l₇ 0 (vint w8 (d .need))) ∷ ‵ (fat fullShare Dn′.mir l₆ 0 (valDn d)) ∷ ‵ (fat fullShare Ms′.mir l₅ 0 (valMs m)) ∷ ‵ (fat fullShare word l₄ 0 (vint w64 k)) ∷ ‵ (fat fullShare Ev′.mir l₃ 0 (valEv e)) ∷ ‵ (fat fullShare (sliceTy (tyRef (named 0) mut (pointee (Ms.the-row .written)))) l₂ 0 s₀) ∷ ‵ (fat fullShare Sz′.mir l₁ 0 (valSz z)) ∷ ‵ (froom An′.mir l₀ 0) ∷ Dies ∷ []) (runs C Λ En pieces.t-3 (atRet En Post))
       part-2 g6 g7 =
-          assigns ! (addr ! (from ! (fld ! refl (hop ! (look-in ! 34 (sub ! 0 refl (whole !))) (stop !))))) (from ! (stop !)) (init ! 14 refl (tt, tt)) $
-          assigns ! (agg ! (and-then ! (reads ! (from ! (stop !)) (look ! 14 refl)) (and-then ! (reads ! (from ! (fld ! refl (stop !))) (look-in ! 34 (sub ! 1 refl (whole !)))) (no-more !)))) (from ! (stop !)) (init ! 12 refl (tt, (tt, (record { fits = room₀ .0 }, tt)))) $
+          assigns ! (addr ! (from ! (fld ! refl (hop ! (look-in ! 18 (sub ! 0 refl (whole !))) (stop !))))) (from ! (stop !)) (init ! 8 refl (tt, tt)) $
+          assigns ! (agg ! (and-then ! (reads ! (from ! (stop !)) (look ! 8 refl)) (and-then ! (reads ! (from ! (fld ! refl (stop !))) (look-in ! 18 (sub ! 1 refl (whole !)))) (no-more !)))) (from ! (stop !)) (init ! 7 refl (tt, (tt, (record { fits = room₀ .0 }, tt)))) $
           calls-shared ! fm Ms.the-row (plain (λ _. u8) ∷ []) u8 (yes, tt) (vint w8) (uint-tells w8) b₀ o₀ n₀ t refl (λ ν. (uint-vals w8, tt)) (λ ν. (uint-makes 𝓤 H A W w8, tt)) (λ ν. ((d .need), tt)) (λ ν. (g7, tt))
-          (room.clauses 𝓤 H A mem run) known-room (lacking (d .need) t) (λ ν δ. tt) (λ ν δ. id⊢ 𝓤 (emp 𝓤)) (λ ν δ r e′. id⊢ 𝓤 (fact 𝓤 (r ≡ (lacking (d .need) t)))) (λ ν δ. (and-then ! (reads ! (from ! (stop !)) (look ! 15 refl)) (and-then ! (reads ! (from ! (stop !)) (look ! 27 refl)) (no-more !)))) (λ g8.
-          land ! (from ! (stop !)) (init ! 22 refl (tt, record { fits = g8 .1 })) $
+          (room.clauses 𝓤 H A mem run) known-room (lacking (d .need) t) (λ ν δ. tt) (λ ν δ. id⊢ 𝓤 (emp 𝓤)) (λ ν δ r e′. id⊢ 𝓤 (fact 𝓤 (r ≡ (lacking (d .need) t)))) (λ ν δ. (and-then ! (reads ! (from ! (stop !)) (look ! 10 refl)) (and-then ! (reads ! (from ! (stop !)) (look ! 16 refl)) (no-more !)))) (λ g8.
+          land ! (from ! (stop !)) (init ! 12 refl (tt, record { fits = g8 .1 })) $
           calls-value ! fm (finish-table.signature .params) Dn.the-row (finish-table.ended .kept) (finish-table.clauses 𝓤 H A mem run) known-finish-table (valsDn, (uint-vals w8, tt)) (makesDn, (uint-makes 𝓤 H A W w8, tt)) valDn (LL.tells Dn.the-type Dn′.the-laws)
-          (d, ((lacking (d .need) t), tt)) (g6, (g8, tt)) tt (id⊢ 𝓤 (emp 𝓤)) f (λ r e′. id⊢ 𝓤 (fact 𝓤 (r ≡ f))) (and-then ! (reads ! (from ! (stop !)) (look ! 27 refl)) (and-then ! (reads ! (from ! (stop !)) (look ! 23 refl)) (no-more !))) (λ g9.
-          land ! (from ! (stop !)) (init ! 20 refl (typedDn f g9)) $
-          forget ! 14 refl $
-          forget ! 12 refl $
+          (d, ((lacking (d .need) t), tt)) (g6, (g8, tt)) tt (id⊢ 𝓤 (emp 𝓤)) f (λ r e′. id⊢ 𝓤 (fact 𝓤 (r ≡ f))) (and-then ! (reads ! (from ! (stop !)) (look ! 15 refl)) (and-then ! (reads ! (from ! (stop !)) (look ! 13 refl)) (no-more !))) (λ g9.
+          land ! (from ! (stop !)) (init ! 11 refl (typedDn f g9)) $
+          forget ! 8 refl $
+          forget ! 7 refl $
           part-3 g6 g7 g8 g9))
 
       part-1 : Sq W (‵ (Slice Ms.the-row κ₀ γ₀ b₀ o₀ n₀ t) ∷ ‵ (flft κ₀ q₀)
-          ∷ ‵ (froom (sliceTy (tyRef erased mut (pointee (Ms.the-row .written)))) l₁₈ 0) ∷ ‵ (fdies (sliceTy (tyRef erased mut (pointee (Ms.the-row .written)))) l₁₈) ∷ ‵ (froom (tyRef erased mut (pointee (Ms.the-row .written))) l₁₇ 0) ∷ ‵ (fdies (tyRef erased mut (pointee (Ms.the-row .written))) l₁₇) ∷ ‵ (froom (sliceTy (tyRef erased mut (pointee (Ms.the-row .written)))) l₁₆ 0) ∷ ‵ (fdies (sliceTy (tyRef erased mut (pointee (Ms.the-row .written)))) l₁₆) ∷ ‵ (froom (tyRef erased mut (pointee (Ms.the-row .written))) l₁₅ 0) ∷ ‵ (fdies (tyRef erased mut (pointee (Ms.the-row .written))) l₁₅) ∷ ‵ (froom tyUnit l₁₄ 0) ∷ ‵ (fdies tyUnit l₁₄) ∷ ‵ (froom (sliceTy (tyRef erased imm (pointee (Ms.the-row .written)))) l₁₃ 0) ∷ ‵ (fdies (sliceTy (tyRef erased imm (pointee (Ms.the-row .written)))) l₁₃) ∷ ‵ (froom (tyRef erased imm (pointee (Ms.the-row .written))) l₁₂ 0) ∷ ‵ (fdies (tyRef erased imm (pointee (Ms.the-row .written))) l₁₂) ∷ ‵ (froom Sd′.mir l₁₁ 0) ∷ ‵ (fdies Sd′.mir l₁₁) ∷ ‵ (froom Ms′.mir l₁₀ 0) ∷ ‵ (fdies Ms′.mir l₁₀) ∷ ‵ (froom Dn′.mir l₉ 0) ∷ ‵ (fdies Dn′.mir l₉) ∷ ‵ (froom byte l₈ 0) ∷ ‵ (fdies byte l₈) ∷ ‵ (froom byte l₇ 0) ∷ ‵ (fdies byte l₇) ∷ ‵ (froom Dn′.mir l₆ 0) ∷ ‵ (fdies Dn′.mir l₆) ∷ ‵ (fat fullShare Ms′.mir l₅ 0 (valMs m)) ∷ ‵ (fdies Ms′.mir l₅) ∷ ‵ (fat fullShare word l₄ 0 (vint w64 k)) ∷ ‵ (fdies word l₄) ∷ ‵ (fat fullShare Ev′.mir l₃ 0 (valEv e)) ∷ ‵ (fdies Ev′.mir l₃) ∷ ‵ (fat fullShare (sliceTy (tyRef (named 0) mut (pointee (Ms.the-row .written)))) l₂ 0 s₀) ∷ ‵ (fdies (sliceTy (tyRef (named 0) mut (pointee (Ms.the-row .written)))) l₂) ∷ ‵ (fat fullShare Sz′.mir l₁ 0 (valSz z)) ∷ ‵ (fdies Sz′.mir l₁) ∷ ‵ (froom An′.mir l₀ 0) ∷ ‵ (fdies An′.mir l₀) ∷ []) (runs C Λ En pieces.t-1 (atRet En Post))
+          ∷ ‵ (froom (sliceTy (tyRef erased mut (pointee (Ms.the-row .written)))) l₁₈ 0) ∷ ‵ (froom (tyRef erased mut (pointee (Ms.the-row .written))) l₁₇ 0) ∷ ‵ (froom (sliceTy (tyRef erased mut (pointee (Ms.the-row .written)))) l₁₆ 0) ∷ ‵ (froom (tyRef erased mut (pointee (Ms.the-row .written))) l₁₅ 0) ∷ ‵ (froom tyUnit l₁₄ 0) ∷ ‵ (froom (sliceTy (tyRef erased imm (pointee (Ms.the-row .written)))) l₁₃ 0) ∷ ‵ (froom (tyRef erased imm (pointee (Ms.the-row .written))) l₁₂ 0) ∷ ‵ (froom Sd′.mir l₁₁ 0) ∷ ‵ (froom Ms′.mir l₁₀ 0) ∷ ‵ (froom Dn′.mir l₉ 0) ∷ ‵ (froom byte l₈ 0) ∷ ‵ (froom byte l₇ 0) ∷ ‵ (froom Dn′.mir l₆ 0) ∷ ‵ (fat fullShare Ms′.mir l₅ 0 (valMs m)) ∷ ‵ (fat fullShare word l₄ 0 (vint w64 k)) ∷ ‵ (fat fullShare Ev′.mir l₃ 0 (valEv e)) ∷ ‵ (fat fullShare (sliceTy (tyRef (named 0) mut (pointee (Ms.the-row .written)))) l₂ 0 s₀) ∷ ‵ (fat fullShare Sz′.mir l₁ 0 (valSz z)) ∷ ‵ (froom An′.mir l₀ 0) ∷ Dies ∷ []) (runs C Λ En pieces.t-1 (atRet En Post))
       part-1 =
           calls-value ! fm (decide-table.signature .params) Dn.the-row (decide-table.ended .kept) (decide-table.clauses 𝓤 H A mem run) known-decide-table (valsSz, (valsEv, (valsMs, tt))) (makesSz, (makesEv, (makesMs, tt))) valDn (LL.tells Dn.the-type Dn′.the-laws)
-          (z, (e, (m, tt))) (gz, (ge, (gm, tt))) tt (factI 𝓤 _ (emp 𝓤) (fit .0)) d (λ r e′. id⊢ 𝓤 (fact 𝓤 (r ≡ d))) (and-then ! (reads ! (from ! (stop !)) (look ! 37 refl)) (and-then ! (reads ! (from ! (stop !)) (look ! 33 refl)) (and-then ! (reads ! (from ! (stop !)) (look ! 29 refl)) (no-more !)))) (λ g6.
-          land ! (from ! (stop !)) (init ! 26 refl (typedDn d g6)) $
+          (z, (e, (m, tt))) (gz, (ge, (gm, tt))) tt (factI 𝓤 _ (emp 𝓤) (fit .0)) d (λ r e′. id⊢ 𝓤 (fact 𝓤 (r ≡ d))) (and-then ! (reads ! (from ! (stop !)) (look ! 20 refl)) (and-then ! (reads ! (from ! (stop !)) (look ! 18 refl)) (and-then ! (reads ! (from ! (stop !)) (look ! 16 refl)) (no-more !)))) (λ g6.
+          land ! (from ! (stop !)) (init ! 14 refl (typedDn d g6)) $
           calls-value ! fm (need-in.signature .params) u8 (need-in.ended .kept) (need-in.clauses 𝓤 H A mem run) known-need-in (valsDn, tt) (makesDn, tt) (vint w8) (uint-tells w8)
-          (d, tt) (g6, tt) tt (id⊢ 𝓤 (emp 𝓤)) (d .need) (λ r e′. id⊢ 𝓤 (fact 𝓤 (r ≡ (d .need)))) (and-then ! (reads ! (from ! (stop !)) (look ! 27 refl)) (no-more !)) (λ g7.
-          land ! (from ! (stop !)) (init ! 24 refl (tt, record { fits = g7 .1 })) $
+          (d, tt) (g6, tt) tt (id⊢ 𝓤 (emp 𝓤)) (d .need) (λ r e′. id⊢ 𝓤 (fact 𝓤 (r ≡ (d .need)))) (and-then ! (reads ! (from ! (stop !)) (look ! 15 refl)) (no-more !)) (λ g7.
+          land ! (from ! (stop !)) (init ! 13 refl (tt, record { fits = g7 .1 })) $
           part-2 g6 g7))
 
     walk : ent 𝓤 (onEntry 𝓤 H A this.signature (κ₀, tt) (q₀, tt) (z, (listAt Ms.the-row b₀ o₀ t γ₀, (e, (k, (m, tt))))) at) (WpFn 𝓤 H C Λ code.function (valSz z ∷ s₀ ∷ valEv e ∷ vint w64 k ∷ valMs m ∷ []) Post)
     walk =
         qed W ((‵ (flft κ₀ q₀) ⊛ ‵ ftrue) ∷ ‵ (owns (Sz.the-row ∷ MutSlice (named 0) κ₀ Ms.the-row ∷ Ev.the-row ∷ usize ∷ Ms.the-row ∷ []) (z, (listAt Ms.the-row b₀ o₀ t γ₀, (e, (k, (m, tt))))) at) ∷ []) ∵ enter ! C Λ code.function (valSz z ∷ s₀ ∷ valEv e ∷ vint w64 k ∷ valMs m ∷ []) _ $
-        alloc1 ! (λ l₀. alloc1 ! (λ l₁. alloc1 ! (λ l₂. alloc1 ! (λ l₃. alloc1 ! (λ l₄. alloc1 ! (λ l₅. alloc1 ! (λ l₆. alloc1 ! (λ l₇. alloc1 ! (λ l₈. alloc1 ! (λ l₉. alloc1 ! (λ l₁₀. alloc1 ! (λ l₁₁. alloc1 ! (λ l₁₂. alloc1 ! (λ l₁₃. alloc1 ! (λ l₁₄. alloc1 ! (λ l₁₅. alloc1 ! (λ l₁₆. alloc1 ! (λ l₁₇. alloc1 ! (λ l₁₈. alloc0 ! $ params1 ! $
-        pass1 ! (init ! 34 refl (typedSz z gz)) $ pass1 ! (init ! 32 refl (tt, (tt, (record { fits = room₀ .0 }, tt)))) $ pass1 ! (init ! 30 refl (typedEv e ge)) $ pass1 ! (init ! 28 refl (tt, record { fits = gk .1 })) $ pass1 ! (init ! 26 refl (typedMs m gm)) $ pass0 ! $
-        move ! (39 ∷ []) $ fsplit ! $ move ! (1 ∷ []) $ fsplit ! $
-        move ! (41 ∷ []) $ split ! $
-        keep ! (2 ∷ 0 ∷ 5 ∷ 6 ∷ 7 ∷ 8 ∷ 9 ∷ 10 ∷ 11 ∷ 12 ∷ 13 ∷ 14 ∷ 15 ∷ 16 ∷ 17 ∷ 18 ∷ 19 ∷ 20 ∷ 21 ∷ 22 ∷ 23 ∷ 24 ∷ 25 ∷ 26 ∷ 27 ∷ 28 ∷ 29 ∷ 30 ∷ 31 ∷ 32 ∷ 33 ∷ 34 ∷ 35 ∷ 36 ∷ 37 ∷ 38 ∷ 39 ∷ 40 ∷ 41 ∷ 42 ∷ []) $ part-1 l₀ l₁ l₂ l₃ l₄ l₅ l₆ l₇ l₈ l₉ l₁₀ l₁₁ l₁₂ l₁₃ l₁₄ l₁₅ l₁₆ l₁₇ l₁₈)))))))))))))))))))
+        alloc1 ! (λ l₀. alloc1 ! (λ l₁. alloc1 ! (λ l₂. alloc1 ! (λ l₃. alloc1 ! (λ l₄. alloc1 ! (λ l₅. alloc1 ! (λ l₆. alloc1 ! (λ l₇. alloc1 ! (λ l₈. alloc1 ! (λ l₉. alloc1 ! (λ l₁₀. alloc1 ! (λ l₁₁. alloc1 ! (λ l₁₂. alloc1 ! (λ l₁₃. alloc1 ! (λ l₁₄. alloc1 ! (λ l₁₅. alloc1 ! (λ l₁₆. alloc1 ! (λ l₁₇. alloc1 ! (λ l₁₈. alloc0 ! $ dies-apart ! 19 $ params1 ! $
+        pass1 ! (init ! 18 refl (typedSz z gz)) $ pass1 ! (init ! 17 refl (tt, (tt, (record { fits = room₀ .0 }, tt)))) $ pass1 ! (init ! 16 refl (typedEv e ge)) $ pass1 ! (init ! 15 refl (tt, record { fits = gk .1 })) $ pass1 ! (init ! 14 refl (typedMs m gm)) $ pass0 ! $
+        move ! (21 ∷ []) $ fsplit ! $ move ! (1 ∷ []) $ fsplit ! $
+        move ! (23 ∷ []) $ split ! $
+        keep ! (2 ∷ 0 ∷ 6 ∷ 7 ∷ 8 ∷ 9 ∷ 10 ∷ 11 ∷ 12 ∷ 13 ∷ 14 ∷ 15 ∷ 16 ∷ 17 ∷ 18 ∷ 19 ∷ 20 ∷ 21 ∷ 22 ∷ 23 ∷ 24 ∷ 5 ∷ []) $ part-1 l₀ l₁ l₂ l₃ l₄ l₅ l₆ l₇ l₈ l₉ l₁₀ l₁₁ l₁₂ l₁₃ l₁₄ l₁₅ l₁₆ l₁₇ l₁₈)))))))))))))))))))
 
 module _ {M : Type 1} (𝓤 : URA M) (H : Heap 𝓤) (A : Atoms 𝓤) (W : Given 𝓤 H A) (mem : Memory → SProp 𝓤) (run : Routine → Fun 𝓤) (𝓣 : Tables 𝓤 H) (known-decide-table : Triple 𝓤 (𝓣 .C #decide-table) (Of-decide-table 𝓤 H A mem run)) (known-need-in : Triple 𝓤 (𝓣 .C #need-in) (Of-need-in 𝓤 H A mem run)) (known-room : Triple 𝓤 (𝓣 .C #room) (Of-room 𝓤 H A mem run)) (known-finish-table : Triple 𝓤 (𝓣 .C #finish-table) (Of-finish-table 𝓤 H A mem run)) (known-slot-in : Triple 𝓤 (𝓣 .C #slot-in) (Of-slot-in 𝓤 H A mem run)) (known-store-message : Triple 𝓤 (𝓣 .C #store-message) (Of-store-message 𝓤 H A mem run)) (known-send-in : Triple 𝓤 (𝓣 .C #send-in) (Of-send-in 𝓤 H A mem run)) (known-send-all : Triple 𝓤 (𝓣 .C #send-all) (Of-send-all 𝓤 H A mem run)) (known-reply : Triple 𝓤 (𝓣 .C #reply) (Of-reply 𝓤 H A mem run)) where
   f-walks : Walks 𝓤 H A this.ended stayed (WpFn 𝓤 H (𝓣 .C) (𝓣 .Λ) code.function) (this.clauses 𝓤 H A mem run)

@@ -9,7 +9,7 @@ use Rattle.sets.specs.Acceptors.{mostAcceptors, none, includes, withOne, togeth
 use Rattle.model.specs.declared.Event.{Event}
 use Rattle.model.specs.declared.Answer.{Answer}
 use Rattle.model.specs.Records.{State, fresh}
-use Rattle.model.specs.Rules.{buffering, isCurrent, acknowledging, rejecting, mayPropose, proposeNo, proposing, mayRefine, refineNo, refining, mayDecide, decideNo, deciding, crashedProposer, accepts, accepting, gaining, crashedAcceptor, hearing, learns, holding, learning, listening, crashedLearner}
+use Rattle.model.specs.Rules.{buffering, isCurrent, acknowledging, rejecting, mayPropose, proposeNo, proposing, mayRefine, refineNo, refining, mayDecide, decideNo, deciding, crashedProposer, accepts, accepting, gaining, crashedAcceptor, hearing, learns, listening, crashedLearner}
 use Rattle.model.specs.Table.{freeSlots, place, post, from, without}
 use Rattle.model.specs.Events.{delivery, proposes, crashed, effect, tests}
 use Rattle.model.specs.Ranges.{all, proposerInRange, acceptorInRange, heardInRange, learnerInRange, fieldsInRange, messageInRange, lengthsInRange, recordsInRange}
@@ -22,7 +22,7 @@ unfolding ones scansInRange sizesInRange mostScans empty only _∪_ holds within
 theSets = tt
 
 unfoldable pub theStep : Unit {0}
-unfolding theSets fresh buffering isCurrent acknowledging rejecting mayPropose proposeNo proposing mayRefine refineNo refining mayDecide decideNo deciding crashedProposer accepts accepting gaining crashedAcceptor hearing learns holding learning listening crashedLearner freeSlots place post from without delivery proposes crashed effect tests all proposerInRange acceptorInRange heardInRange learnerInRange fieldsInRange messageInRange lengthsInRange recordsInRange stepped stepNo step
+unfolding theSets fresh buffering isCurrent acknowledging rejecting mayPropose proposeNo proposing mayRefine refineNo refining mayDecide decideNo deciding crashedProposer accepts accepting gaining crashedAcceptor hearing learns listening crashedLearner freeSlots place post from without delivery proposes crashed effect tests all proposerInRange acceptorInRange heardInRange learnerInRange fieldsInRange messageInRange lengthsInRange recordsInRange stepped stepNo step
 theStep = theSets
 
 -- ---- a settled state: its lists are walked to their ends, so that they are computed once

@@ -18,10 +18,10 @@ use Rattle.model.specs.declared.Heard.{Heard}
 use Rattle.model.specs.declared.Learner.{Learner}
 use Rattle.model.specs.declared.Message.{Message}
 use Rattle.model.specs.Records.{unheard, heardOf}
-use Rattle.model.specs.Rules.{buffering, acknowledging, rejecting, proposing, refining, decideNo, deciding, crashedProposer, accepting, gaining, hearing, learns, listening}
+use Rattle.model.specs.Rules.{buffering, acknowledging, rejecting, proposing, refining, decideNo, deciding, crashedProposer, accepting, gaining, Rank, higher, equal, lower, hearingOf, hearing, learns, newlyHeard, listening}
 use Rattle.choice.proofs.Tests.{if-ind}
 use Rattle.model.proofs.Lists.{set-each}
-use Rattle.model.proofs.RuleLaws.{decide-majority, newlyHeard, learns-majority, listening-learnt, listening-heard}
+use Rattle.model.proofs.RuleLaws.{decide-majority, learns-majority, listening-learnt, listening-heard}
 
 -- what has happened so far: an acceptor accepted a set; a proposer's proposal of a number was of a set; a scan was received
 pub record Known : Type 1 where
@@ -157,14 +157,14 @@ module _ {K : Known} {A : ℕ} (one : OneSet K) where
   unfolding hearing
   hearing-inv h m x r y =
       let j = y .exist in
-      if-ind Q (ltb (h .number) (m .number)) _ _
+      if-ind Q (ltb (h .number) (m .number)) higher _
       (λ e. search kept)
-      (λ e. if-ind Q (eqb (h .number) (m .number)) _ _
+      (λ e. if-ind Q (eqb (h .number) (m .number)) equal lower
       (λ f. let a = voted-same (sym (eqb-true (h .number) (m .number) f)) y (x .what) in search kept)
       (λ f. x))
     where
-      Q : Heard → Type 0
-      Q g = HeardInv K A (m .proposer .0) g
+      Q : Rank → Type 0
+      Q r = HeardInv K A (m .proposer .0) (hearingOf h m r)
 
   pub listening-inv : (l : Learner) (m : Message) → LearnerInv K A l → AllReceived K (m .set)
       → Voted K A (m .proposer .0) (m .acceptor .0) (m .number) (m .set) → LearnerInv K A (listening A l m)

@@ -11,11 +11,9 @@ use Rattle.sets.specs.declared.scans.Scans.{Scans}
 use Rattle.sets.proofs.ScanLaws.{⊆-left, within-true, true-within, strictly-true}
 use Rattle.model.specs.declared.Proposer.{Proposer}
 use Rattle.model.specs.declared.Acceptor.{Acceptor}
-use Rattle.model.specs.declared.Heard.{Heard}
 use Rattle.model.specs.declared.Learner.{Learner}
 use Rattle.model.specs.declared.Message.{Message}
-use Rattle.model.specs.Records.{heardOf}
-use Rattle.model.specs.Rules.{greatestNumber, isCurrent, proposeNo, refineNo, mayDecide, decideNo, accepts, accepting, gaining, hearing, learns, holding, learning, listening}
+use Rattle.model.specs.Rules.{greatestNumber, isCurrent, proposeNo, refineNo, mayDecide, decideNo, accepts, accepting, gaining, learns, newlyHeard, listening}
 use Rattle.choice.proofs.Tests.{and-l, and-r, test-passed, rest-passed}
 
 -- ---- an acceptor
@@ -59,17 +57,13 @@ refine-number a p e = search (ltb-true, rest-passed 4, rest-passed 5, test-passe
 strictly-contained : (u v : Scans) → strictlyWithin u v ≡ true → u ⊆ v
 strictly-contained u v e = strictly-true u v e .0
 
--- what a learner holds of the message's proposer once it has heard the message
-abbrev pub newlyHeard : Learner → Message → Heard
-newlyHeard l m = hearing (heardOf l (m .proposer .0)) m
-
 module _ (a : ℕ) (l : Learner) (m : Message) where
   pub listening-learnt : listening a l m .learnt ≡ if learns a l m then newlyHeard l m .set else l .learnt
-  unfolding listening learning holding
+  unfolding listening
   listening-learnt = refl
 
   pub listening-heard : listening a l m .heard ≡ set (l .heard) (m .proposer .0) (newlyHeard l m)
-  unfolding listening learning holding
+  unfolding listening
   listening-heard = refl
 
 module _ (a : ℕ) (l : Learner) (m : Message) (e : learns a l m ≡ true) where

@@ -20,10 +20,10 @@ use Rattle.model.specs.declared.Heard.{Heard}
 use Rattle.model.specs.declared.Learner.{Learner}
 use Rattle.model.specs.declared.Message.{Message}
 use Rattle.model.specs.Records.{announcement, heardOf, freshProposer, freshAcceptor, freshLearner, unheard}
-use Rattle.model.specs.Rules.{greatestNumber, buffering, acknowledging, rejecting, proposing, refining, deciding, crashedProposer, accepting, gaining, crashedAcceptor, hearing, learns, listening, crashedLearner}
+use Rattle.model.specs.Rules.{greatestNumber, buffering, acknowledging, rejecting, proposing, refining, deciding, crashedProposer, accepting, gaining, crashedAcceptor, Rank, higher, equal, lower, hearingOf, hearing, learns, newlyHeard, listening, crashedLearner}
 use Rattle.model.specs.Ranges.{all, proposerInRange, acceptorInRange, heardInRange, learnerInRange, fieldsInRange}
 use Rattle.choice.proofs.Tests.{if-ind, and-l, and-r, and-i}
-use Rattle.model.proofs.RuleLaws.{newlyHeard, listening-learnt, listening-heard}
+use Rattle.model.proofs.RuleLaws.{listening-learnt, listening-heard}
 
 pub or-r : (a b : Bool) → b ≡ true → (a || b) ≡ true
 or-r true b e = refl
@@ -164,9 +164,9 @@ module _ (z : Sizes) (m : Message) (y : fieldsInRange z m announcement ≡ true)
   unfolding heardInRange hearing fieldsInRange
   hearing-range h x =
       let j : m .acceptor .0 < z .acceptors = search (and-l, and-r, ltb-true) in
-      if-ind (λ (g : Heard). heardInRange z g ≡ true) (ltb (h .number) (m .number)) _ _
+      if-ind (λ (r : Rank). heardInRange z (hearingOf h m r) ≡ true) (ltb (h .number) (m .number)) higher _
       (λ e. search parts depth 12)
-      (λ e. if-ind (λ (g : Heard). heardInRange z g ≡ true) (eqb (h .number) (m .number)) _ _ (λ f. search parts depth 12) (λ f. x))
+      (λ e. if-ind (λ (r : Rank). heardInRange z (hearingOf h m r) ≡ true) (eqb (h .number) (m .number)) equal lower (λ f. search parts depth 12) (λ f. x))
 
   proposer-below : m .proposer .0 < z .proposers
   unfolding fieldsInRange

@@ -192,19 +192,33 @@ crashedAcceptor q = record { alive = false; accepted = q .accepted }
 
 -- ---- a learner
 
--- a higher number than heard replaces number, set and acceptors; an equal one adds the acceptor; a lower one does nothing more
-unfoldable pub hearing : Heard → Message → Heard
-hearing h m =
-    if ltb (h .number) (m .number)
-    then record { number = m .number; set = m .set; acceptors = withOne none (m .acceptor .0) }
-    else (if eqb (h .number) (m .number)
-    then record { number = h .number; set = h .set; acceptors = withOne (h .acceptors) (m .acceptor .0) }
-    else h)
+-- an acknowledgement's number against the newest one heard of its proposer
+pub data Rank : Type 0 where
+  higher equal lower : Rank
 
--- unless it was lower: that proposer's acceptors here are now a majority of a, and learnt is strictly contained in the set held for it
+abbrev pub rankOf : Heard → Message → Rank
+rankOf h m =
+    if ltb (h .number) (m .number) then higher
+    else (if eqb (h .number) (m .number) then equal else lower)
+
+-- a higher number than heard replaces number, set and acceptors; an equal one adds the acceptor; a lower one does nothing more
+abbrev pub hearingOf : Heard → Message → Rank → Heard
+hearingOf h m higher = record { number = m .number; set = m .set; acceptors = withOne none (m .acceptor .0) }
+hearingOf h m equal = record { number = h .number; set = h .set; acceptors = withOne (h .acceptors) (m .acceptor .0) }
+hearingOf h m lower = h
+
+unfoldable pub hearing : Heard → Message → Heard
+hearing h m = hearingOf h m (rankOf h m)
+
+abbrev pub isLower : Rank → Bool
+isLower higher = false
+isLower equal = false
+isLower lower = true
+
+-- unless it was lower: if that proposer's acceptors here are now a majority of a and learnt is strictly contained in the set held for it
 abbrev pub teaches : ℕ → Scans → Heard → Message → Bool
 teaches a learnt h m =
-    not (ltb (m .number) (h .number))
+    not (isLower (rankOf h m))
     && isMajority (hearing h m .acceptors) a
     && strictlyWithin learnt (hearing h m .set)
 
@@ -212,18 +226,17 @@ teaches a learnt h m =
 unfoldable pub learns : ℕ → Learner → Message → Bool
 learns a l m = teaches a (l .learnt) (heardOf l (m .proposer .0)) m
 
--- it holds this as heard of a proposer
-unfoldable pub holding : Learner → ℕ → Heard → Learner
-holding l i h = record { alive = l .alive; learnt = l .learnt; heard = set (l .heard) i h }
+-- what a learner holds of the message's proposer once it has heard the message
+abbrev pub newlyHeard : Learner → Message → Heard
+newlyHeard l m = hearing (heardOf l (m .proposer .0)) m
 
--- where it learns, learnt becomes the set
-unfoldable pub learning : Learner → Bool → Scans → Learner
-learning l t v = record { alive = l .alive; learnt = if t then v else l .learnt; heard = l .heard }
-
--- an acknowledgement is heard, and may make it learn the set that it then holds
+-- an acknowledgement is heard, and where it teaches, learnt becomes the set held for its proposer
 unfoldable pub listening : ℕ → Learner → Message → Learner
-listening a l m =
-    learning (holding l (m .proposer .0) (hearing (heardOf l (m .proposer .0)) m)) (learns a l m) (hearing (heardOf l (m .proposer .0)) m .set)
+listening a l m = record {
+  alive = l .alive;
+  learnt = if learns a l m then newlyHeard l m .set else l .learnt;
+  heard = set (l .heard) (m .proposer .0) (newlyHeard l m);
+}
 
 -- not alive from then on
 unfoldable pub crashedLearner : Learner → Learner

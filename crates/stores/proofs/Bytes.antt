@@ -17,13 +17,13 @@ use Rattle.model.specs.declared.Heard.{Heard}
 use Rattle.model.specs.declared.Learner.{Learner}
 use Rattle.model.specs.declared.Message.{Message}
 use Rattle.model.specs.Records.{freshProposer, freshAcceptor, freshLearner, unheard}
-use Rattle.model.specs.Rules.{accepts, answering, hearing, learns, listening}
+use Rattle.model.specs.Rules.{accepts, answering, hearing, learns, newlyHeard, listening}
 use Rattle.model.specs.Ranges.{acceptorInRange}
 use Rattle.model.specs.Table.{Announcement}
 use Rattle.model.specs.Network.{Worn}
 use Rattle.choice.proofs.Tests.{if-ind, test-passed}
 use Rattle.model.proofs.Lists.{replicate-all}
-use Rattle.model.proofs.RuleLaws.{listening-heard, newlyHeard}
+use Rattle.model.proofs.RuleLaws.{listening-heard}
 use Rattle.layouts.specs.Layout.{sizesOf, wordAt, setAt, flagged, isAcceptor, acceptorAt, acceptorBytes, proposerAt, heardPlace, heardAt, placesAt, isLearner, learnerAt, learnerBytes}
 use Rattle.layouts.proofs.Parts.{learner-sizes, few-proposers}
 use Rattle.layouts.proofs.Places.{length-places-at, eight-left, eight-listening}

@@ -13,7 +13,7 @@ use Rattle.sets.specs.declared.scans.Scans.{Scans}
 use Rattle.sets.specs.Scans.{_⊆_}
 use Rattle.sets.proofs.ScanLaws.{strictly-true, ⊆-refl}
 use Rattle.model.specs.Records.{State, Kind, free, internal, proposal, acknowledgement, rejection, announcement, noKind, kindOf, Role, aProposer, anAcceptor, aLearner, noRole, roleOf, freshLearner, proposerOf, acceptorOf, learnerOf, slotOf, putLearner, freeing}
-use Rattle.model.specs.Rules.{isCurrent, accepts, learns, listening, crashedLearner}
+use Rattle.model.specs.Rules.{isCurrent, accepts, learns, newlyHeard, listening, crashedLearner}
 use Rattle.model.specs.Events.{Code, receive, deliver, drop, duplicate, propose, refine, decide, crash, noCode, codeOf, Effect, effect, delivery, proposes, crashed}
 use Rattle.model.specs.Step.{stepped, stepNo, step, sent}
 use Rattle.model.specs.declared.Learner.{Learner}
@@ -22,7 +22,7 @@ use Rattle.model.specs.declared.Event.{Event}
 use Rattle.model.specs.declared.Answer.{Answer}
 use Rattle.model.specs.declared.Answer.the-variants.{Ok, Learnt, Decided, Refused}
 use Rattle.model.proofs.Lists.{set-rel}
-use Rattle.model.proofs.RuleLaws.{newlyHeard, listening-learnt}
+use Rattle.model.proofs.RuleLaws.{listening-learnt}
 use Rattle.model.proofs.Steps.{does}
 use Rattle.model.proofs.Answers.{learnt-left}
 use Rattle.tight.specs.Learning.{TellsLearnt}

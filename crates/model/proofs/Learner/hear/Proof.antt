@@ -7,7 +7,7 @@ use Rattle.model.specs.declared.Heard.{Heard}
 use Rattle.model.specs.declared.Learner.{Learner}
 use Rattle.model.specs.declared.Message.{Message}
 use Rattle.model.specs.Records.{heardOf}
-use Rattle.model.specs.Rules.{hearing, teaches, listening, holding, learning, learns}
+use Rattle.model.specs.Rules.{hearing, teaches, listening, learns}
 use Rattle.model.proofs.Places.{eight-places}
 use Rattle.model.proofs.Learner.hear.Statement.{statement}
 use Rattle.model.proofs.Learner.hear.Tie as tie
@@ -36,28 +36,28 @@ element-set-from-new : tie.Need-element-set-from-new
 element-set-from-new c = search needs
 
 returns : tie.Need-returns
-unfolding listening holding learning
+unfolding listening
 returns c =
     let o = c .before .before .before .before .before .before .before in
     let s = o .before in
     simp (by-heard (s .args .acceptors) (s .args .t1) (s .args .m) _ (o .heard-of .ensures) ∙ sym (c .before .before .before .teaches .ensures) ∙ c .if2 .taken, c .before .before .before .before .before .before .hear .ensures, o .heard-of .ensures)
 
 returns-2 : tie.Need-returns-2
-unfolding listening holding learning
+unfolding listening
 returns-2 c =
     let o = c .before .before .before .before .before .before .before in
     let s = o .before in
     simp (by-heard (s .args .acceptors) (s .args .t1) (s .args .m) _ (o .heard-of .ensures) ∙ sym (c .before .before .before .teaches .ensures) ∙ c .if2 .left, c .before .before .before .before .before .before .hear .ensures, o .heard-of .ensures)
 
 returns-3 : tie.Need-returns-3
-unfolding listening holding learning
+unfolding listening
 returns-3 c =
     let o = c .before .before .before .before .before .before .before in
     let s = o .before in
     simp (by-heard (s .args .acceptors) (s .args .t1) (s .args .m) _ (o .heard-of .ensures) ∙ sym (c .before .before .before .teaches .ensures) ∙ c .if3 .taken, c .before .before .before .before .before .before .hear .ensures, o .heard-of .ensures, set-out (s .args .t1 .heard) (s .args .m .proposer .0) (hearing (heardOf (s .args .t1) (s .args .m .proposer .0)) (s .args .m)) (omega (arith, eight-places (s .args .t1) _ (s .good .0))))
 
 returns-4 : tie.Need-returns-4
-unfolding listening holding learning
+unfolding listening
 returns-4 c =
     let o = c .before .before .before .before .before .before .before in
     let s = o .before in

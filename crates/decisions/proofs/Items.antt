@@ -14,7 +14,7 @@ use Rattle.sets.specs.declared.scans.Scans.{Scans}
 use Rattle.model.specs.Table.{Internal, Proposal, Acknowledgement, Announcement, from, everyOne, without, everyOther}
 use Rattle.model.specs.declared.Message.{Message}
 use Rattle.decisions.specs.declared.sending.Send.{Send}
-use Rattle.decisions.specs.Sending.{silence, one, toEveryone, toOthers, acknowledgements, itemOf, itemsOf}
+use Rattle.decisions.specs.Sending.{silence, one, toEveryone, toOthers, acknowledgements, skipping, itemOf, itemsOf}
 
 -- ---- how many there are
 
@@ -42,10 +42,6 @@ unfolding itemsOf itemOf
 items-everyone n p k v = refl
 
 -- ---- to everyone but one
-
--- the place after a is that of the next one
-abbrev skipping : ℕ → ℕ → ℕ
-skipping a k = if ltb k a then k else k + 1
 
 module _ (f : ℕ → Message) (a : ℕ) where
   past : (i n : ℕ) → a ≤ i → map (λ k. f (skipping a k)) (from i n) ≡ map f (without a (from (suc i) n))

@@ -1,17 +1,16 @@
 -- What an event that is not refused sends takes its slots, and a slot that it frees is taken. This is the one law that goes by the events.
 use mathlib.Core.Path.{_≡_, refl, _∙_, ap}
 use mathlib.Core.Bool.{Bool, true, false, _&&_}
-use mathlib.Core.List.{[], _∷_, map}
-use Prim.Native.Nat.{ℕ, zero, suc, _+_, _-_}
+use mathlib.Core.List.{map}
+use Prim.Native.Nat.{ℕ, zero, suc, _-_}
 use native.Mathlib.Omega.{arith}
 use lib.Dec.{T as Holds, eqb, ltb}
-use lib.ListN.{getD}
 use Rattle.choice.specs.Choice.{if_then_else_}
 use Rattle.sets.specs.declared.scans.Scans.{Scans}
 use Rattle.sizes.specs.declared.Sizes.{Sizes}
 use Rattle.model.specs.Records.{Kind, free, internal, proposal, acknowledgement, rejection, announcement, noKind, kindOf, Role, aProposer, anAcceptor, aLearner, noRole, roleOf, addressed}
 use Rattle.model.specs.Rules.{accepts, answering}
-use Rattle.model.specs.Table.{Acknowledgement, from}
+use Rattle.model.specs.Table.{from}
 use Rattle.choice.specs.Tests.{_unless_, _⨾_, refusal, ok}
 use Rattle.model.specs.Ranges.{all}
 use Rattle.model.specs.Events.{Code, receive, deliver, drop, duplicate, propose, refine, decide, crash, noCode}
@@ -20,7 +19,7 @@ use Rattle.model.specs.declared.Acceptor.{Acceptor}
 use Rattle.model.specs.declared.Message.{Message}
 use Rattle.decisions.specs.declared.decide.Change.{Change}
 use Rattle.decisions.specs.declared.sending.Send.{Send}
-use Rattle.decisions.specs.Sending.{isTaken, silence, addressedTo, itemOf, itemsOf}
+use Rattle.decisions.specs.Sending.{Shape, alone, everyone, others, acknowledging, shapeOf, isTaken, silence, addressedTo, toProposer, itemBy, itemOf, itemsOf}
 use Rattle.decisions.specs.Change.{acceptorSends, answeringOf, deliveringOf, crashingOf, receivingOf, changeOf}
 use Rattle.decisions.specs.Refusals.{aliveIn, slotNo, testNo}
 
@@ -30,24 +29,19 @@ pub record Sendable (m : Message) (d : Change) : Type 0 where
 
 -- ---- each message that is sent takes its slot, where the one that they are made of does
 
-shape-three : (t : Bool) (x y : Message) → Holds (isTaken x) → Holds (isTaken y) → Holds (isTaken (if t then x else y))
-shape-three true x y h k = h
-shape-three false x y h k = k
+either-taken : (t : Bool) (x y : Message) → Holds (isTaken x) → Holds (isTaken y) → Holds (isTaken (if t then x else y))
+either-taken true x y h k = h
+either-taken false x y h k = k
 
-shape-by : (n : ℕ) (w x y v : Message) → Holds (isTaken w) → Holds (isTaken x) → Holds (isTaken y) → Holds (isTaken v) → Holds (isTaken (getD (w ∷ x ∷ y ∷ v ∷ []) n w))
-shape-by zero w x y v a b c d = a
-shape-by (suc zero) w x y v a b c d = b
-shape-by (suc (suc zero)) w x y v a b c d = c
-shape-by (suc (suc (suc zero))) w x y v a b c d = d
-shape-by (suc (suc (suc (suc n)))) w x y v a b c d = a
+item-by : (s : Send) (k : ℕ) (x : Shape) → Holds (isTaken (s .message)) → Holds (isTaken (itemBy s k x))
+item-by s k alone h = h
+item-by s k everyone h = h
+item-by s k others h = h
+item-by s k acknowledging h = either-taken (eqb k 0) (toProposer (s .message)) (addressedTo (s .message) (k - 1)) tt h
 
 item-taken : (s : Send) (k : ℕ) → Holds (isTaken (s .message)) → Holds (isTaken (itemOf s k))
 unfolding itemOf
-item-taken s k h =
-    shape-by (s .shape) (s .message) (addressedTo (s .message) k) (addressedTo (s .message) (if ltb k (s .except) then k else k + 1))
-    (if eqb k 0 then Acknowledgement (s .message .acceptor .0) (s .message .number) (s .message .set) (s .message .proposer .0) else addressedTo (s .message) (k - 1))
-    h h h
-    (shape-three (eqb k 0) (Acknowledgement (s .message .acceptor .0) (s .message .number) (s .message .set) (s .message .proposer .0)) (addressedTo (s .message) (k - 1)) tt h)
+item-taken s k h = item-by s k (shapeOf (s .shape)) h
 
 and-by : (t u : Bool) → Holds t → u ≡ true → (t && u) ≡ true
 and-by true u h e = e

@@ -14,25 +14,38 @@ use Rattle.decisions.specs.declared.sending.Send.{Send}
 abbrev pub isTaken : Message → Bool
 isTaken m = not (isFree m)
 
+-- how the messages to send are made of one: the message alone, to everyone, to the others but one, or an acceptor's acknowledgements
+pub data Shape : Type 0 where
+  alone everyone others acknowledging : Shape
+
+abbrev pub shapeOf : ℕ → Shape
+shapeOf n = getD (alone ∷ everyone ∷ others ∷ acknowledging ∷ []) n alone
+
+abbrev pub shapeNo : Shape → ℕ
+shapeNo alone = 0
+shapeNo everyone = 1
+shapeNo others = 2
+shapeNo acknowledging = 3
+
 -- nothing
 abbrev pub silence : Send
-silence = record { shape = 0; count = 0; except = 0; message = freeSlot }
+silence = record { shape = shapeNo alone; count = 0; except = 0; message = freeSlot }
 
 -- one message
 abbrev pub one : Message → Send
-one m = record { shape = 0; count = 1; except = 0; message = m }
+one m = record { shape = shapeNo alone; count = 1; except = 0; message = m }
 
 -- a message to everyone of n
 abbrev pub toEveryone : ℕ → Message → Send
-toEveryone n m = record { shape = 1; count = n; except = 0; message = m }
+toEveryone n m = record { shape = shapeNo everyone; count = n; except = 0; message = m }
 
 -- a message to everyone of n but one
 abbrev pub toOthers : ℕ → ℕ → Message → Send
-toOthers n a m = record { shape = 2; count = n - 1; except = a; message = m }
+toOthers n a m = record { shape = shapeNo others; count = n - 1; except = a; message = m }
 
 -- an acceptor's acknowledgement to the proposer and then to everyone of n learners, made of that to a learner
 abbrev pub acknowledgements : ℕ → Message → Send
-acknowledgements n m = record { shape = 3; count = n + 1; except = 0; message = m }
+acknowledgements n m = record { shape = shapeNo acknowledging; count = n + 1; except = 0; message = m }
 
 -- a message with another addressee
 abbrev pub addressedTo : Message → ℕ → Message
@@ -45,16 +58,24 @@ addressedTo m to = record {
   set = m .set;
 }
 
+-- number k of all but one
+abbrev pub skipping : ℕ → ℕ → ℕ
+skipping a k = if ltb k a then k else k + 1
+
+-- an acknowledgement to a learner, made one to its proposer
+abbrev pub toProposer : Message → Message
+toProposer m = Acknowledgement (m .acceptor .0) (m .number) (m .set) (m .proposer .0)
+
+-- message k by its shape
+abbrev pub itemBy : Send → ℕ → Shape → Message
+itemBy s k alone = s .message
+itemBy s k everyone = addressedTo (s .message) k
+itemBy s k others = addressedTo (s .message) (skipping (s .except) k)
+itemBy s k acknowledging = if eqb k 0 then toProposer (s .message) else addressedTo (s .message) (k - 1)
+
 -- message k of what is to be sent
 unfoldable pub itemOf : Send → ℕ → Message
-itemOf s k =
-    getD
-    (s .message
-    ∷ addressedTo (s .message) k
-    ∷ addressedTo (s .message) (if ltb k (s .except) then k else k + 1)
-    ∷ (if eqb k 0 then Acknowledgement (s .message .acceptor .0) (s .message .number) (s .message .set) (s .message .proposer .0) else addressedTo (s .message) (k - 1))
-    ∷ [])
-    (s .shape) (s .message)
+itemOf s k = itemBy s k (shapeOf (s .shape))
 
 -- all of them, in order
 unfoldable pub itemsOf : Send → List Message

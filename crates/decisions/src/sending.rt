@@ -4,7 +4,7 @@ ghost use Rattle.decisions.specs.Sending.{silence, one};
 use model::Message;
 
 // The messages to send: `count` of them, made of one by their shape.
-// Shape 0: the message itself. 1: to everyone from 0. 2: to everyone but `except`. 3: an acknowledgement to its proposer, then to every learner.
+// Shape 0: the message alone. 1: to everyone from 0. 2: to the others, all but `except`. 3: an acknowledgement to its proposer, then to every learner.
 pub struct Send {
     pub shape: u8,
     pub count: u8,

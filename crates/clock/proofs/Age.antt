@@ -2,8 +2,8 @@
 use mathlib.Core.Path.{_≡_}
 use Prim.Native.Nat.{ℕ, _+_, _-_, _%_, _^_, _<_, _≤_}
 use native.Mathlib.Omega.{arith}
-use borrow.Author.Tests.{le-ltb}
-use Rattle.clock.specs.Clock.{age, clockRule}
+use borrow.Author.Tests.{le-leb}
+use Rattle.clock.specs.Clock.{age, clockRuleNo, clockRule}
 use Rattle.clock.specs.declared.ScanTime.the-variants.{At}
 
 -- the number that wraps back from the scan's tick to the dock's is the age
@@ -23,5 +23,5 @@ true-age ran old h = omega arith
 -- a scan made at `ran` milliseconds of the handheld and docked `old` milliseconds later, at `time`: the rule gives the true time
 pub true-time : (ran old time : ℕ) → old < 2 ^ 32 → old ≤ time → time ≤ 2 ^ 48 - 1
     → clockRule (tick (ran + old)) (tick ran) time ≡ At (time - old)
-unfolding clockRule
-true-time ran old time h l t = simp (true-age ran old h, le-ltb (2 ^ 48 - 1) time t, le-ltb time old l)
+unfolding clockRule clockRuleNo
+true-time ran old time h l t = simp (true-age ran old h, le-leb time (2 ^ 48 - 1) t, le-leb old time l)

@@ -1,8 +1,8 @@
 -- The clock rule of document 01, "Clock and shelf", over whole numbers.
-use mathlib.Core.Bool.{_||_}
 use Prim.Native.Nat.{ℕ, _+_, _-_, _%_, _^_}
-use lib.Dec.{ltb}
+use lib.Dec.{eqb, leb}
 use Rattle.choice.specs.Choice.{if_then_else_}
+use Rattle.choice.specs.Tests.{_unless_, _⨾_, ok}
 use Rattle.clock.specs.declared.ScanTime.{ScanTime}
 use Rattle.clock.specs.declared.ScanTime.the-variants.{At, Refused}
 
@@ -10,12 +10,19 @@ use Rattle.clock.specs.declared.ScanTime.the-variants.{At, Refused}
 unfoldable pub age : ℕ → ℕ → ℕ
 age dockTick scanTick = (dockTick + 2 ^ 32 - scanTick) % 2 ^ 32
 
--- refused where the dock time is above 2 ^ 48 - 1 or the age is above the dock time; otherwise dock time less age
+-- 9: a dock time above 2 ^ 48 - 1, or an age above the dock time
+unfoldable pub clockRuleNo : ℕ → ℕ → ℕ → ℕ
+clockRuleNo dockTick scanTick dockTime =
+    9 unless leb dockTime (2 ^ 48 - 1)
+    ⨾ 9 unless leb (age dockTick scanTick) dockTime
+    ⨾ ok
+
+-- scan time is dock time less age, unless that refuses
 unfoldable pub clockRule : ℕ → ℕ → ℕ → ScanTime
 clockRule dockTick scanTick dockTime =
-    if ltb (2 ^ 48 - 1) dockTime || ltb dockTime (age dockTick scanTick)
-    then Refused
-    else At (dockTime - age dockTick scanTick)
+    if eqb (clockRuleNo dockTick scanTick dockTime) 0
+    then At (dockTime - age dockTick scanTick)
+    else Refused
 
 -- document 01's number of an answer: 0, or the refusal 9
 abbrev pub clockNo : ScanTime → ℕ

@@ -14,7 +14,7 @@ use Rattle.numbers.specs.Coding.{groupsOf, mostOf, readNumber, form}
 use Rattle.numbers.specs.declared.Limit.{Limit}
 use Rattle.numbers.specs.declared.Read.the-variants as read
 use Rattle.numbers.proofs.CodingLaws.{written-reads, read-form, form-groups, form-bytes}
-use Rattle.forms.specs.Forms.{Outcome, got, refused, refusedWith, Test, testRead, prepend, row, rows, whole, thenNumbers, numbersAt, forms, rowNo, rowsNo, asRead, allWithin}
+use Rattle.forms.specs.Forms.{Outcome, got, refused, refusedWith, Test, testRead, prepend, row, rows, thenNumbers, numbersAt, forms, rowNo, rowsNo, asRead, allWithin}
 use Rattle.choice.proofs.Tests.{and-l, and-r}
 use Rattle.forms.proofs.Outcomes.{refused-got, row-cons, times, rows-row, times-length, times-map, rows-no-row, row-no-cons, cons-row-no, as-read-zero, zero-as-read}
 pub use Rattle.numbers.proofs.CodingLaws.{Bytes}
@@ -213,18 +213,6 @@ rows-forms n tests limit s at {vs} b e =
     }
 
 -- ---- the whole of the bytes
-
--- nothing follows what was read as a whole
-pub whole-got : (s : List ℕ) (o : Outcome) {vs : List ℕ} {next : ℕ} → whole s o ≡ got vs next → (o ≡ got vs next) × (length s ≤ next)
-unfolding whole
-whole-got s (refused r) e = absurd (refused-got e)
-whole-got s (got ws n) {vs} {next} e = go (ltb n (length s)) refl e
-  where
-    go : (t : Bool) → ltb n (length s) ≡ t → (if t then refusedWith 13 else got ws n) ≡ got vs next → (got ws n ≡ got vs next) × (length s ≤ next)
-    go true q h = absurd (refused-got h)
-    go false q h =
-        let p : n ≡ next = cc in
-        (h, omega (arith, ltb-false n (length s) q))
 
 -- the bytes are the forms that stand from their start to their end
 pub stands-whole : {s vs : List ℕ} {next : ℕ} → Stands s 0 vs next → length s ≤ next → s ≡ forms vs

@@ -9,11 +9,12 @@ use lib.Dec.{leb}
 use lib.ListN.{length, drop, getD}
 use lib.Seq.{sets, length-sets}
 use borrow.Author.Tests.{leb-true}
-use Rattle.numbers.specs.Coding.{mostOf, form, writeAnswer, afterWrite}
+use Rattle.numbers.specs.Coding.{mostOf, form, limitNo, numberWritten, afterNumber}
 use Rattle.numbers.specs.declared.Limit.{Limit}
 use Rattle.numbers.specs.declared.Refusal.{Refusal}
 use Rattle.numbers.specs.declared.Written.the-variants as written
-use Rattle.numbers.proofs.Writes as one
+use Rattle.numbers.proofs.Puts.{Puts}
+use Rattle.numbers.proofs.Writing as one
 use Rattle.forms.specs.Forms.{forms, allWithin}
 use Rattle.forms.proofs.Steps.{sets-append, forms-next, forms-next-length, forms-none, within-next}
 use Rattle.choice.proofs.Tests.{and-l, and-r}
@@ -33,19 +34,19 @@ module _ (limit : Limit) (vs d₀ : List ℕ) (at : ℕ) where
 
 module _ (limit : Limit) (vs d₀ : List ℕ) (at : ℕ) (d : List ℕ) (n i : ℕ) (l : Left limit vs d₀ at d n i) where
   -- the next number has room and is within the limit
-  next-fits : i < length vs → at + length (forms vs) ≤ length d₀ → one.Writes limit (getD vs i 0) d n (written.Next (n + length (form (getD vs i 0)))) (sets d n (form (getD vs i 0)))
+  next-fits : i < length vs → at + length (forms vs) ≤ length d₀ → Puts (limitNo limit (getD vs i 0)) (form (getD vs i 0)) d n (written.Next (n + length (form (getD vs i 0)))) (sets d n (form (getD vs i 0)))
   next-fits h r =
       let w = and-l (leb (getD vs i 0) (mostOf limit)) (allWithin limit (drop (i + 1) vs)) (sym (within-next vs i limit h) ∙ l .within) in
       one.wrote limit (getD vs i 0) d n (leb-true (getD vs i 0) (mostOf limit) w) (omega (arith, forms-next-length vs i h, l .ends, l .same))
 
   -- after it
-  pub more : {m : ℕ} {e : List ℕ} → i < length vs → at + length (forms vs) ≤ length d₀ → writeAnswer limit (getD vs i 0) d n ≡ written.Next m → e ≡ afterWrite limit (getD vs i 0) d n → Left limit vs d₀ at e m (i + 1)
+  pub more : {m : ℕ} {e : List ℕ} → i < length vs → at + length (forms vs) ≤ length d₀ → numberWritten limit (getD vs i 0) d n ≡ written.Next m → e ≡ afterNumber limit (getD vs i 0) d n → Left limit vs d₀ at e m (i + 1)
   more {m} {e} h r a b =
       let v = getD vs i 0 in
       let w = next-fits h r in
-      let q : written.Next (n + length (form v)) ≡ written.Next m = w .answer ∙ a in
+      let q : written.Next (n + length (form v)) ≡ written.Next m = w .0 ∙ a in
       let p : m ≡ n + length (form v) = cc in
-      let t : e ≡ sets d n (form v) = b ∙ sym (w .buffer) in
+      let t : e ≡ sets d n (form v) = b ∙ sym (w .1) in
       record {
         same = ap length t ∙ length-sets d n (form v) ∙ l .same;
         passed = omega arith;
@@ -55,9 +56,9 @@ module _ (limit : Limit) (vs d₀ : List ℕ) (at : ℕ) (d : List ℕ) (n i : �
       }
 
   -- it is not refused
-  pub never : {r : Refusal} → i < length vs → at + length (forms vs) ≤ length d₀ → writeAnswer limit (getD vs i 0) d n ≡ written.Refused r → ⊥
+  pub never : {r : Refusal} → i < length vs → at + length (forms vs) ≤ length d₀ → numberWritten limit (getD vs i 0) d n ≡ written.Refused r → ⊥
   never {r} h f a =
-      let q : written.Next (n + length (form (getD vs i 0))) ≡ written.Refused r = next-fits h f .answer ∙ a in
+      let q : written.Next (n + length (form (getD vs i 0))) ≡ written.Refused r = next-fits h f .0 ∙ a in
       let z : _≡_ {A = ℕ} 0 1 = cc in
       omega arith
 

@@ -6,14 +6,13 @@ use lib.Dec.{eqb, ltb, leb}
 use lib.ListN.{length, drop, replicate}
 use lib.Seq.{sets}
 use Rattle.choice.specs.Choice.{if_then_else_}
-use Rattle.choice.specs.Tests.{_unless_, refusal, _⨾_}
-use Rattle.numbers.specs.Coding.{mostOf, readNumber, form, refusedWrite, leaves}
+use Rattle.choice.specs.Tests.{_unless_, refusal, _⨾_, ok}
+use Rattle.numbers.specs.Coding.{mostOf, readNumber, form, putNo, putAnswer, afterPut}
 use Rattle.numbers.specs.declared.Limit.{Limit}
 use Rattle.numbers.specs.declared.Refusal.{Refusal}
 use Rattle.numbers.specs.declared.Read.{Read}
 use Rattle.numbers.specs.declared.Read.the-variants as read
 use Rattle.numbers.specs.declared.Written.{Written}
-use Rattle.numbers.specs.declared.Written.the-variants as written
 use Rattle.forms.specs.declared.Place.{Place}
 use Rattle.forms.specs.declared.Place.the-variants as place
 
@@ -64,12 +63,7 @@ untested v = 0
 abbrev pub plain : ℕ → Limit → List ℕ → ℕ → Outcome
 plain n limit bytes at = row (replicate n untested) limit bytes at
 
--- the end: 13 where bytes follow
-unfoldable pub whole : List ℕ → Outcome → Outcome
-whole bytes (got vs next) = if ltb next (length bytes) then refusedWith 13 else got vs next
-whole bytes (refused r) = refused r
-
--- where reading ends
+-- where reading a piece ends
 abbrev pub placeOf : Outcome → Place
 placeOf (got vs next) = place.Next next
 placeOf (refused r) = place.Refused r
@@ -83,6 +77,54 @@ unfoldable pub numbersAt : ℕ → Limit → List ℕ → ℕ → List ℕ
 numbersAt zero limit bytes at = []
 numbersAt (suc n) limit bytes at =
     thenNumbers (readNumber limit bytes at) (λ next. numbersAt n limit bytes next)
+
+-- ---- a whole form: a header, then numbers, then the end
+
+-- what reading it gives: its header and the numbers after it, or a refusal
+pub data FormRead (H : Type 0) : Type 0 where
+  readAs : H → List ℕ → FormRead H
+  unread : Refusal → FormRead H
+
+abbrev pub unreadWith : {H : Type 0} → ℕ → FormRead H
+unreadWith n = unread (record { no = n })
+
+-- what is read, unless n refuses it
+abbrev pub unlessRefused : {H : Type 0} → ℕ → FormRead H → FormRead H
+unlessRefused n o = if eqb n 0 then o else unreadWith n
+
+-- the numbers after a header, and then the end: 13 where bytes follow
+unfoldable pub whole : {H : Type 0} → List ℕ → H → Outcome → FormRead H
+whole bytes header (got vs next) = if ltb next (length bytes) then unreadWith 13 else readAs header vs
+whole bytes header (refused r) = unread r
+
+-- document 01's number of what was read: 0, or the refusal's
+unfoldable pub formNo : {H : Type 0} → FormRead H → ℕ
+formNo (readAs header vs) = 0
+formNo (unread r) = r .no
+
+-- the numbers after the header
+unfoldable pub numbersIn : {H : Type 0} → FormRead H → List ℕ
+numbersIn (readAs header vs) = vs
+numbersIn (unread r) = []
+
+-- reading into room: 8, after all else, where the room is smaller than the numbers
+unfoldable pub roomNo : {H : Type 0} → FormRead H → List ℕ → ℕ
+roomNo o room =
+    refusal (formNo o)
+    ⨾ 8 unless leb (length (numbersIn o)) (length room)
+    ⨾ ok
+
+unfoldable pub intoRoom : {H : Type 0} → FormRead H → List ℕ → FormRead H
+intoRoom o room = unlessRefused (roomNo o room) o
+
+-- the room after it: the numbers fill its first places; a refusal leaves it as it was
+unfoldable pub afterRoom : {H : Type 0} → FormRead H → List ℕ → List ℕ
+afterRoom o room = if eqb (roomNo o room) 0 then sets room 0 (numbersIn o) else room
+
+-- the end of a form whose numbers end at a place
+abbrev pub endedAt : ℕ → Place → Place
+endedAt end (place.Next next) = if ltb next end then place.Refused (record { no = 13 }) else place.Next next
+endedAt end (place.Refused r) = place.Refused r
 
 -- ---- writing
 
@@ -111,14 +153,16 @@ unfoldable pub allWithin : Limit → List ℕ → Bool
 allWithin limit [] = true
 allWithin limit (v ∷ vs) = leb v (mostOf limit) && allWithin limit vs
 
--- what writing numbers from a place of a buffer answers
-unfoldable pub writeAllAnswer : Limit → List ℕ → List ℕ → ℕ → Written
-writeAllAnswer limit vs buffer at =
-    if allWithin limit vs
-    then (if ltb (length buffer) (at + length (forms vs)) then refusedWrite 8 else written.Next (at + length (forms vs)))
-    else refusedWrite 12
+-- each of the numbers is within the limit
+unfoldable pub limitsNo : Limit → List ℕ → ℕ
+limitsNo limit vs = 12 unless allWithin limit vs ⨾ ok
 
--- the buffer after it: a refusal leaves it as it was
-unfoldable pub afterWriteAll : Limit → List ℕ → List ℕ → ℕ → List ℕ
-afterWriteAll limit vs buffer at =
-    leaves (writeAllAnswer limit vs buffer at) (sets buffer at (forms vs)) buffer
+-- numbers from a place of a buffer on: the refusal, the answer, the buffer after it
+abbrev pub numbersWrittenNo : Limit → List ℕ → List ℕ → ℕ → ℕ
+numbersWrittenNo limit vs buffer at = putNo (limitsNo limit vs) (forms vs) buffer at
+
+abbrev pub numbersWritten : Limit → List ℕ → List ℕ → ℕ → Written
+numbersWritten limit vs buffer at = putAnswer (limitsNo limit vs) (forms vs) buffer at
+
+abbrev pub afterNumbers : Limit → List ℕ → List ℕ → ℕ → List ℕ
+afterNumbers limit vs buffer at = afterPut (limitsNo limit vs) (forms vs) buffer at

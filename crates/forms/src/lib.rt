@@ -5,7 +5,9 @@ ghost use mathlib.Core.Bool.{true};
 ghost use lib.Dec.{leb};
 ghost use lib.ListN.{length};
 ghost use lib.Seq.{sets};
-ghost use Rattle.forms.specs.Forms.{placeOf, plain, numbersAt, forms, allWithin, writeAllAnswer, afterWriteAll};
+ghost use Rattle.choice.specs.Tests.{refusal, _⨾_};
+ghost use Rattle.numbers.specs.Coding.{writtenNo};
+ghost use Rattle.forms.specs.Forms.{placeOf, plain, numbersAt, endedAt, forms, allWithin, numbersWritten, afterNumbers, numbersWrittenNo};
 use numbers::Limit;
 use numbers::Read;
 use numbers::Refusal;
@@ -60,6 +62,29 @@ pub fn take_numbers(room: &mut [u64], bytes: &[u8], at: usize, limit: Limit, cou
         }
         i += 1;
     }
+}
+
+// The end of a form of so many bytes whose numbers end at a place: 13 where bytes follow.
+pub fn ended(length: usize, place: Place) -> Place
+    ensures { λ r. ⌜ r ≡ endedAt length place ⌝ }
+{
+    match place {
+        Place::Next(next) => {
+            if next < length {
+                Place::Refused(Refusal { no: 13 })
+            } else {
+                Place::Next(next)
+            }
+        }
+        Place::Refused(refusal) => Place::Refused(refusal),
+    }
+}
+
+// The first of two refusals, where 0 is none.
+pub fn first_no(first: u8, second: u8) -> u8
+    ensures { λ r. ⌜ r ≡ (refusal first ⨾ second) ⌝ }
+{
+    if first == 0 { second } else { first }
 }
 
 // Whether the written forms of the numbers, one after the other, take at most `room` bytes.
@@ -118,7 +143,7 @@ fn put_numbers(buffer: &mut [u8], at: usize, values: &[u64], limit: Limit) -> us
 
 // Writes the numbers one after the other from a place on; 12 where one is above the limit, 8 where there is no room, and then no byte changes.
 pub fn write_numbers(buffer: &mut [u8], at: usize, values: &[u64], limit: Limit) -> Written
-    ensures { λ r. ⌜ (r ≡ writeAllAnswer limit (now (values .entry)) (now (buffer .entry)) at) × (now (buffer .exit) ≡ afterWriteAll limit (now (values .entry)) (now (buffer .entry)) at) ⌝ }
+    ensures { λ r. ⌜ (r ≡ numbersWritten limit (now (values .entry)) (now (buffer .entry)) at) × (now (buffer .exit) ≡ afterNumbers limit (now (values .entry)) (now (buffer .entry)) at) × (writtenNo r ≡ numbersWrittenNo limit (now (values .entry)) (now (buffer .entry)) at) ⌝ }
 {
     if !all_within(values, limit) {
         return Written::Refused(Refusal { no: 12 });

@@ -2,22 +2,24 @@
 use mathlib.Core.Path.{_≡_, refl, sym, ap, _∙_}
 use mathlib.Core.Bool.{Bool, true, false, _&&_}
 use mathlib.Core.List.{List, _++_, append-assoc}
-use mathlib.Core.Logic.{_⊎_, inl, inr, ⊎-elim, _↔_}
+use mathlib.Core.Logic.{_⊎_, ⊎-elim, ⊎-map, _↔_}
 use Prim.Native.Nat.{ℕ, _+_, _-_, _*_, _^_, _<_, _≤_}
 use native.Mathlib.Omega.{arith}
-use lib.Dec.{eqb, lit≤}
+use lib.Dec.{eqb, leb, lit≤}
 use lib.ListN.{length, take, drop, getD, length-drop}
-use lib.Seq.{sets, sets-eq, length-sets, length-take-le, drop-append-seam, getD-drop}
+use lib.Seq.{sets, sets-eq, length-take-le, drop-append-seam, getD-drop}
+use borrow.Author.Tests.{leb-true, leb-false, lt-leb, le-leb}
+use Rattle.choice.proofs.Tests.{test-passed}
 use Rattle.numbers.specs.declared.Limit.{Limit}
 use Rattle.numbers.specs.declared.Limit.the-variants.{Schedule, Table}
 use Rattle.numbers.specs.declared.Refusal.{Refusal}
 use Rattle.numbers.specs.declared.Read.the-variants as read
 use Rattle.numbers.specs.declared.Written.the-variants as written
-use Rattle.numbers.specs.Coding.{groupsOf, mostOf, refusedRead, groupsFrom, readNumber, formIn, form, writeAnswer, afterWrite, writtenNo}
+use Rattle.numbers.specs.Coding.{groupsOf, mostOf, refusedRead, groupsFrom, readNumber, formIn, form, limitNo, numberWritten, afterNumber}
 use Rattle.numbers.proofs.Forms.{form-in-some, form-short, form-in-bytes}
 use Rattle.numbers.proofs.Groups.{groups-few}
 use Rattle.numbers.proofs.Reading.{Reads, Found, reads, reads-form, found-form, reads-refusals, reads-cut, cut-reads}
-use Rattle.numbers.proofs.Writes.{Answer, answers, sets-stays}
+use Rattle.numbers.proofs.Puts.{put-next, put-length, put-stays, put-refused, put-refusals}
 pub use Rattle.numbers.proofs.Forms.{Bytes}
 pub use Rattle.numbers.proofs.Reading.{Cut}
 
@@ -57,30 +59,42 @@ written-reads limit v before after h =
 
 -- ---- what a writer answers
 
-refused-next : {r : Refusal} {n : ℕ} → written.Refused r ≡ written.Next n → ⊥
-refused-next e = let z : _≡_ {A = ℕ} 0 1 = cc in omega arith
+-- a number within the limit, and one above it
+pub limit-within : (limit : Limit) (v : ℕ) → v ≤ mostOf limit → limitNo limit v ≡ 0
+unfolding limitNo
+limit-within limit v h = rw (le-leb v (mostOf limit) h)
+
+pub limit-above : (limit : Limit) (v : ℕ) → mostOf limit < v → limitNo limit v ≡ 12
+unfolding limitNo
+limit-above limit v h = rw (lt-leb v (mostOf limit) h)
+
+-- and back
+pub within-limit : (limit : Limit) (v : ℕ) → limitNo limit v ≡ 0 → v ≤ mostOf limit
+unfolding limitNo
+within-limit limit v e = leb-true v (mostOf limit) (test-passed 11 (leb v (mostOf limit)) 0 e)
+
+pub above-limit : (limit : Limit) (v : ℕ) → (limitNo limit v ≡ 0 → ⊥) → mostOf limit < v
+above-limit limit v h = go (leb v (mostOf limit)) refl
+  where
+    go : (t : Bool) → leb v (mostOf limit) ≡ t → mostOf limit < v
+    go true e = absurd (h (limit-within limit v (leb-true v (mostOf limit) e)))
+    go false e = leb-false v (mostOf limit) e
 
 -- a place n as the answer: the number is within the limit, n is past its form, and the form has been stored
 pub record Stored (limit : Limit) (v : ℕ) (d : List ℕ) (at n : ℕ) : Type 0 where
   pub within : v ≤ mostOf limit
   pub place : n ≡ at + length (form v)
   pub room : n ≤ length d
-  pub buffer : afterWrite limit v d at ≡ sets d at (form v)
+  pub buffer : afterNumber limit v d at ≡ sets d at (form v)
 
 -- what a writer says by a next place
-pub write-next : (limit : Limit) (v : ℕ) (d : List ℕ) (at n : ℕ) → writeAnswer limit v d at ≡ written.Next n → Stored limit v d at n
-write-next limit v d at n e = go (answers limit v d at)
-  where
-    go : Answer limit v d at → Stored limit v d at n
-    go (Answer.large h w) = absurd (refused-next (w .answer ∙ e))
-    go (Answer.narrow h l w) = absurd (refused-next (w .answer ∙ e))
-    go (Answer.fits h l w) =
-        let q : written.Next (at + length (form v)) ≡ written.Next n = w .answer ∙ e in
-        let p : n ≡ at + length (form v) = cc in
-        record { within = h; place = p; room = omega arith; buffer = sym (w .buffer) }
+pub write-next : (limit : Limit) (v : ℕ) (d : List ℕ) (at n : ℕ) → numberWritten limit v d at ≡ written.Next n → Stored limit v d at n
+write-next limit v d at n e =
+    let s = put-next (limitNo limit v) (form v) d at n e in
+    record { within = within-limit limit v (s .passes); place = s .place; room = s .room; buffer = s .buffer }
 
 -- a number that is written into a buffer reads back there, to the same next place
-pub write-then-read : (limit : Limit) (v : ℕ) (d : List ℕ) (at n : ℕ) → writeAnswer limit v d at ≡ written.Next n → readNumber limit (afterWrite limit v d at) at ≡ read.Number v n
+pub write-then-read : (limit : Limit) (v : ℕ) (d : List ℕ) (at n : ℕ) → numberWritten limit v d at ≡ written.Next n → readNumber limit (afterNumber limit v d at) at ≡ read.Number v n
 write-then-read limit v d at n e =
     let s = write-next limit v d at n e in
     let room : at + length (form v) ≤ length d = omega (arith, s .place, s .room) in
@@ -89,39 +103,27 @@ write-then-read limit v d at n e =
     rw (s .buffer, sets-eq (form v) d at room, append-assoc, s .place) (rw t at q)
 
 -- writing keeps the length of the buffer
-pub write-length : (limit : Limit) (v : ℕ) (d : List ℕ) (at : ℕ) → length (afterWrite limit v d at) ≡ length d
-write-length limit v d at = go (answers limit v d at)
-  where
-    go : Answer limit v d at → length (afterWrite limit v d at) ≡ length d
-    go (Answer.large h w) = ap length (sym (w .buffer))
-    go (Answer.narrow h l w) = ap length (sym (w .buffer))
-    go (Answer.fits h l w) = ap length (sym (w .buffer)) ∙ length-sets d at (form v)
+pub write-length : (limit : Limit) (v : ℕ) (d : List ℕ) (at : ℕ) → length (afterNumber limit v d at) ≡ length d
+write-length limit v d at = put-length (limitNo limit v) (form v) d at
 
 -- bytes before the place and from the next place on stay as they were
-pub write-stays : (limit : Limit) (v : ℕ) (d : List ℕ) (at n i : ℕ) → writeAnswer limit v d at ≡ written.Next n → (i < at) ⊎ (n ≤ i) → getD (afterWrite limit v d at) i 0 ≡ getD d i 0
-write-stays limit v d at n i e h =
-    let s = write-next limit v d at n e in
-    let p = s .place in
-    rw (s .buffer) (sets-stays (form v) d at i (⊎-elim (λ (b : i < at). inl b) (λ (b : n ≤ i). inr (omega arith)) h))
+pub write-stays : (limit : Limit) (v : ℕ) (d : List ℕ) (at n i : ℕ) → numberWritten limit v d at ≡ written.Next n → (i < at) ⊎ (n ≤ i) → getD (afterNumber limit v d at) i 0 ≡ getD d i 0
+write-stays limit v d at n i e h = put-stays (limitNo limit v) (form v) d at n i e h
 
 -- a refusal leaves the buffer as it was
-pub write-refused : (limit : Limit) (v : ℕ) (d : List ℕ) (at : ℕ) (r : Refusal) → writeAnswer limit v d at ≡ written.Refused r → afterWrite limit v d at ≡ d
-write-refused limit v d at r e = go (answers limit v d at)
-  where
-    go : Answer limit v d at → afterWrite limit v d at ≡ d
-    go (Answer.large h w) = sym (w .buffer)
-    go (Answer.narrow h l w) = sym (w .buffer)
-    go (Answer.fits h l w) = absurd (refused-next (sym (w .answer ∙ e)))
+pub write-refused : (limit : Limit) (v : ℕ) (d : List ℕ) (at : ℕ) (r : Refusal) → numberWritten limit v d at ≡ written.Refused r → afterNumber limit v d at ≡ d
+write-refused limit v d at r e = put-refused (limitNo limit v) (form v) d at r e
 
 -- a writer refuses with 12, for a number above the limit, or with 8, for one within it that has no room
-pub write-refusals : (limit : Limit) (v : ℕ) (d : List ℕ) (at : ℕ) (r : Refusal) → writeAnswer limit v d at ≡ written.Refused r
+pub write-refusals : (limit : Limit) (v : ℕ) (d : List ℕ) (at : ℕ) (r : Refusal) → numberWritten limit v d at ≡ written.Refused r
     → ((r .no ≡ 12) × (mostOf limit < v)) ⊎ ((r .no ≡ 8) × (v ≤ mostOf limit) × (length d < at + length (form v)))
-write-refusals limit v d at r e = go (answers limit v d at)
+write-refusals limit v d at r e = ⊎-map above short (put-refusals (limitNo limit v) (form v) d at r e)
   where
-    go : Answer limit v d at → ((r .no ≡ 12) × (mostOf limit < v)) ⊎ ((r .no ≡ 8) × (v ≤ mostOf limit) × (length d < at + length (form v)))
-    go (Answer.large h w) = inl (sym (ap writtenNo (w .answer ∙ e)), h)
-    go (Answer.narrow h l w) = inr (sym (ap writtenNo (w .answer ∙ e)), h, l)
-    go (Answer.fits h l w) = absurd (refused-next (sym (w .answer ∙ e)))
+    above : (r .no ≡ limitNo limit v) × (limitNo limit v ≡ 0 → ⊥) → (r .no ≡ 12) × (mostOf limit < v)
+    above (p, h) = let l = above-limit limit v h in (p ∙ limit-above limit v l, l)
+
+    short : (r .no ≡ 8) × (limitNo limit v ≡ 0) × (length d < at + length (form v)) → (r .no ≡ 8) × (v ≤ mostOf limit) × (length d < at + length (form v))
+    short (p, z, l) = (p, within-limit limit v z, l)
 
 -- ---- what a number that is read says of the bytes
 

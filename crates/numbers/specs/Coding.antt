@@ -2,10 +2,11 @@
 use mathlib.Core.Bool.{Bool, true, false, _&&_}
 use mathlib.Core.List.{List, [], _∷_}
 use Prim.Native.Nat.{ℕ, zero, suc, _+_, _-_, _*_, _/_, _%_, _^_}
-use lib.Dec.{eqb, ltb}
+use lib.Dec.{eqb, ltb, leb}
 use lib.ListN.{length, drop}
 use lib.Seq.{sets}
 use Rattle.choice.specs.Choice.{if_then_else_}
+use Rattle.choice.specs.Tests.{_unless_, refusal, _⨾_, ok}
 use Rattle.numbers.specs.declared.Limit.{Limit}
 use Rattle.numbers.specs.declared.Limit.the-variants.{Schedule, Table}
 use Rattle.numbers.specs.declared.Read.{Read}
@@ -48,7 +49,7 @@ groupsFrom (suc g) later most low weight (b ∷ bytes) at =
 unfoldable pub readNumber : Limit → List ℕ → ℕ → Read
 readNumber limit bytes at = groupsFrom (groupsOf limit) false (mostOf limit) 0 1 (drop at bytes) at
 
--- ---- writing
+-- ---- the shortest form
 
 -- the shortest form, in at most g groups
 unfoldable pub formIn : ℕ → ℕ → List ℕ
@@ -59,23 +60,42 @@ formIn (suc g) v = if ltb v 128 then v ∷ [] else (v % 128 + 128) ∷ formIn g 
 unfoldable pub form : ℕ → List ℕ
 form v = formIn 10 v
 
+-- ---- writing into a buffer
+
+-- bytes at a place of a buffer: the refusal n where there is one, then 8 unless the bytes fit
+unfoldable pub putNo : ℕ → List ℕ → List ℕ → ℕ → ℕ
+putNo n bytes buffer at =
+    refusal n
+    ⨾ 8 unless leb (at + length bytes) (length buffer)
+    ⨾ ok
+
 abbrev pub refusedWrite : ℕ → Written
 refusedWrite n = written.Refused (record { no = n })
 
--- what writing at a place of a buffer answers
-unfoldable pub writeAnswer : Limit → ℕ → List ℕ → ℕ → Written
-writeAnswer limit v buffer at =
-    if ltb (mostOf limit) v
-    then refusedWrite 12
-    else (if ltb (length buffer) (at + length (form v)) then refusedWrite 8 else written.Next (at + length (form v)))
+-- what writing them answers: the place after them, or the refusal
+unfoldable pub putAnswer : ℕ → List ℕ → List ℕ → ℕ → Written
+putAnswer n bytes buffer at =
+    if eqb (putNo n bytes buffer at) 0
+    then written.Next (at + length bytes)
+    else refusedWrite (putNo n bytes buffer at)
 
--- the buffer after an answer: a refusal leaves it as it was
-abbrev pub leaves : Written → List ℕ → List ℕ → List ℕ
-leaves (written.Next n) new old = new
-leaves (written.Refused r) new old = old
+-- the buffer after it: a refusal leaves it as it was
+unfoldable pub afterPut : ℕ → List ℕ → List ℕ → ℕ → List ℕ
+afterPut n bytes buffer at = if eqb (putNo n bytes buffer at) 0 then sets buffer at bytes else buffer
 
-unfoldable pub afterWrite : Limit → ℕ → List ℕ → ℕ → List ℕ
-afterWrite limit v buffer at = leaves (writeAnswer limit v buffer at) (sets buffer at (form v)) buffer
+-- a number is within the limit
+unfoldable pub limitNo : Limit → ℕ → ℕ
+limitNo limit v = 12 unless leb v (mostOf limit) ⨾ ok
+
+-- the shortest form of a number at a place of a buffer: the refusal, the answer, the buffer after it
+abbrev pub numberWrittenNo : Limit → ℕ → List ℕ → ℕ → ℕ
+numberWrittenNo limit v buffer at = putNo (limitNo limit v) (form v) buffer at
+
+abbrev pub numberWritten : Limit → ℕ → List ℕ → ℕ → Written
+numberWritten limit v buffer at = putAnswer (limitNo limit v) (form v) buffer at
+
+abbrev pub afterNumber : Limit → ℕ → List ℕ → ℕ → List ℕ
+afterNumber limit v buffer at = afterPut (limitNo limit v) (form v) buffer at
 
 -- ---- an answer as numbers
 

@@ -5,7 +5,7 @@ ghost use mathlib.Core.Bool.{false};
 ghost use lib.Dec.{ltb};
 ghost use lib.ListN.{length, drop};
 ghost use lib.Seq.{sets};
-ghost use Rattle.numbers.specs.Coding.{groupsOf, mostOf, lastGroup, groupsFrom, readNumber, form, writeAnswer, afterWrite};
+ghost use Rattle.numbers.specs.Coding.{groupsOf, mostOf, lastGroup, groupsFrom, readNumber, form, numberWritten, afterNumber, numberWrittenNo, writtenNo};
 
 // How large a number may be: as a schedule has it, or as a scan table has it.
 pub enum Limit {
@@ -132,7 +132,7 @@ fn put(buffer: &mut [u8], at: usize, value: u64) -> usize
 
 // Writes the shortest form of a number at a place; 12 where the number is above the limit, 8 where there is no room, and then no byte changes.
 pub fn write_number(buffer: &mut [u8], at: usize, value: u64, limit: Limit) -> Written
-    ensures { λ r. ⌜ (r ≡ writeAnswer limit value (now (buffer .entry)) at) × (now (buffer .exit) ≡ afterWrite limit value (now (buffer .entry)) at) ⌝ }
+    ensures { λ r. ⌜ (r ≡ numberWritten limit value (now (buffer .entry)) at) × (now (buffer .exit) ≡ afterNumber limit value (now (buffer .entry)) at) × (writtenNo r ≡ numberWrittenNo limit value (now (buffer .entry)) at) ⌝ }
 {
     if limit.most() < value {
         return Written::Refused(Refusal { no: 12 });

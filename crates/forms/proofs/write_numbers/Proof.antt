@@ -8,7 +8,7 @@ use borrow.Author.Needs.{needs}
 use borrow.Author.Tests.{leb-true, leb-false, not-true, not-false}
 use Rattle.numbers.specs.declared.Written.the-variants as written
 use Rattle.forms.specs.Forms.{forms, allWithin}
-use Rattle.forms.proofs.WritesAll.{too-large, no-room, wrote}
+use Rattle.forms.proofs.Writing.{too-large, no-room, wrote}
 use Rattle.forms.proofs.write_numbers.Statement.{statement}
 use Rattle.forms.proofs.write_numbers.Tie as tie
 
@@ -18,14 +18,12 @@ all-within-requires c κs = search needs
 returns : tie.Need-returns
 returns c =
     let a = c .before .before .before .before .args in
-    let w = too-large (a .limit) (a .values .now) (a .buffer .now) (a .at) (sym (c .before .all-within .ensures) ∙ not-true _ (c .if1 .taken)) in
-    (w .answer, w .buffer)
+    too-large (a .limit) (a .values .now) (a .buffer .now) (a .at) (sym (c .before .all-within .ensures) ∙ not-true _ (c .if1 .taken))
 
 returns-2 : tie.Need-returns-2
 returns-2 c =
     let a = c .before .before .before .before .before .args in
-    let w = no-room (a .limit) (a .values .now) (a .buffer .now) (a .at) (sym (c .before .before .all-within .ensures) ∙ not-false _ (c .before .if1 .left)) (omega arith) in
-    (w .answer, w .buffer)
+    no-room (a .limit) (a .values .now) (a .buffer .now) (a .at) (sym (c .before .before .all-within .ensures) ∙ not-false _ (c .before .if1 .left)) (omega arith)
 
 fit-in-requires : tie.Need-fit-in-requires
 fit-in-requires c κs = search needs
@@ -34,8 +32,7 @@ returns-3 : tie.Need-returns-3
 returns-3 c =
     let a = c .before .before .before .before .before .before .before .args in
     let f = leb-false (length (forms (a .values .now))) (length (a .buffer .now) - a .at) (sym (c .before .fit-in .ensures) ∙ not-true _ (c .if3 .taken)) in
-    let w = no-room (a .limit) (a .values .now) (a .buffer .now) (a .at) (sym (c .before .before .before .before .all-within .ensures) ∙ not-false _ (c .before .before .before .if1 .left)) (omega arith) in
-    (w .answer, w .buffer)
+    no-room (a .limit) (a .values .now) (a .buffer .now) (a .at) (sym (c .before .before .before .before .all-within .ensures) ∙ not-false _ (c .before .before .before .if1 .left)) (omega arith)
 
 -- past the tests the numbers are within the limit and have room
 ready : (c : tie.After-put-numbers-arg)
@@ -57,7 +54,7 @@ returns-4 c =
     let a = c .before .before .before .before .before .before .before .before .before .before .before .args in
     let r = ready (c .before .before .before) in
     let w = wrote (a .limit) (a .values .now) (a .buffer .now) (a .at) (r .0) (r .1) in
-    (ap written.Next (c .before .before .put-numbers .ensures .0) ∙ w .answer, c .before .before .put-numbers .ensures .1 ∙ w .buffer)
+    (ap written.Next (c .before .before .put-numbers .ensures .0) ∙ w .0, c .before .before .put-numbers .ensures .1 ∙ w .1, w .2)
 
 pub write-numbers-spec : {M : Type 1} → statement M
 write-numbers-spec =

@@ -3,7 +3,7 @@ use mathlib.Core.Path.{ap, _∙_}
 use native.Mathlib.Omega.{arith}
 use borrow.Author.Needs.{needs}
 use Rattle.numbers.specs.declared.Written.the-variants as written
-use Rattle.numbers.proofs.Writes.{too-large, no-room, wrote}
+use Rattle.numbers.proofs.Writing.{too-large, no-room, wrote}
 use Rattle.numbers.proofs.write_number.Statement.{statement}
 use Rattle.numbers.proofs.write_number.Tie as tie
 
@@ -13,8 +13,7 @@ most-requires c κs = search needs
 returns : tie.Need-returns
 returns c =
     let a = c .before .before .before .args in
-    let w = too-large (a .limit) (a .value) (a .buffer .now) (a .at) (omega arith) in
-    (w .answer, w .buffer)
+    too-large (a .limit) (a .value) (a .buffer .now) (a .at) (omega arith)
 
 width-requires : tie.Need-width-requires
 width-requires c κs = search needs
@@ -22,14 +21,12 @@ width-requires c κs = search needs
 returns-2 : tie.Need-returns-2
 returns-2 c =
     let a = c .before .before .before .before .before .args in
-    let w = no-room (a .limit) (a .value) (a .buffer .now) (a .at) (omega arith) (omega arith) in
-    (w .answer, w .buffer)
+    no-room (a .limit) (a .value) (a .buffer .now) (a .at) (omega arith) (omega arith)
 
 returns-3 : tie.Need-returns-3
 returns-3 c =
     let a = c .before .before .before .before .before .before .args in
-    let w = no-room (a .limit) (a .value) (a .buffer .now) (a .at) (omega arith) (omega arith) in
-    (w .answer, w .buffer)
+    no-room (a .limit) (a .value) (a .buffer .now) (a .at) (omega arith) (omega arith)
 
 put-requires : tie.Need-put-requires
 put-requires c κs = search needs
@@ -41,7 +38,7 @@ returns-4 : tie.Need-returns-4
 returns-4 c =
     let a = c .before .before .before .before .before .before .before .before .before .before .args in
     let w = wrote (a .limit) (a .value) (a .buffer .now) (a .at) (omega arith) (omega arith) in
-    (ap written.Next (c .before .before .put .ensures .0) ∙ w .answer, c .before .before .put .ensures .1 ∙ w .buffer)
+    (ap written.Next (c .before .before .put .ensures .0) ∙ w .0, c .before .before .put .ensures .1 ∙ w .1, w .2)
 
 pub write-number-spec : {M : Type 1} → statement M
 write-number-spec =

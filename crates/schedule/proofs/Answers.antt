@@ -1,54 +1,61 @@
 -- The answers of the reader and of the writer, each with the room or the buffer after it. Assumes nothing.
-use mathlib.Core.Path.{_≡_, refl, sym, _∙_}
+use mathlib.Core.Path.{_≡_, refl, sym, ap, _∙_}
 use mathlib.Core.List.{List}
-use Prim.Native.Nat.{ℕ, _+_, _*_, _≤_, _<_}
+use Prim.Native.Nat.{ℕ, _+_, _≤_, _<_}
 use native.Mathlib.Omega.{arith}
-use lib.ListN.{length, drop, length-append}
+use lib.ListN.{length, length-append}
 use lib.Seq.{sets, length-sets}
-use borrow.Author.Tests.{eq-eqb, ne-eqb, lt-ltb, le-ltb}
 use Rattle.sizes.specs.declared.Sizes.{Sizes}
 use Rattle.numbers.specs.Coding.{refusedWrite}
 use Rattle.numbers.specs.declared.Limit.the-variants as limit
 use Rattle.numbers.specs.declared.Refusal.{Refusal}
-use Rattle.numbers.specs.declared.Written.{Written}
 use Rattle.numbers.specs.declared.Written.the-variants as written
-use Rattle.forms.specs.Forms.{Outcome, got, refused, forms, writeAllAnswer, afterWriteAll}
+use Rattle.numbers.proofs.Puts.{Puts, no-room, wrote}
+use Rattle.forms.specs.Forms.{FormRead, readAs, unread, formNo, roomNo, intoRoom, afterRoom, forms, numbersWritten, afterNumbers}
+use Rattle.forms.proofs.Rooms.{Fills, form-refused, room-short, room-enough}
 use Rattle.forms.proofs.Steps.{sets-append}
-use Rattle.forms.proofs.WritesAll as all
-use Rattle.schedule.specs.Schedule.{headerOf, numbersOf, readAnswer, afterRead, headerFor, scheduleNo, scheduleForm, writeAnswer, afterWrite}
+use Rattle.forms.proofs.Writing as all
+use Rattle.schedule.specs.Schedule.{numbersOf, scheduleAnswer, headerFor, scheduleNo, scheduleForm, scheduleWritten, afterSchedule, scheduleReadNo}
+use Rattle.schedule.specs.declared.Header.{Header}
 use Rattle.schedule.specs.declared.ScheduleRead.{ScheduleRead}
 use Rattle.schedule.specs.declared.ScheduleRead.the-variants as schedule
 use Rattle.schedule.proofs.Valid.{six-within, no-valid}
 
--- ---- reading into room
+-- ---- reading
 
--- what was read answers a and leaves e in the room
-pub record Fills (o : Outcome) (room : List ℕ) (a : ScheduleRead) (e : List ℕ) : Type 0 where
-  pub answer : a ≡ readAnswer o room
-  pub after : e ≡ afterRead o room
+-- an answer has the number of what was read
+pub answer-number : (o : FormRead Header) → scheduleReadNo (scheduleAnswer o) ≡ formNo o
+unfolding scheduleAnswer formNo
+answer-number (readAs header fields) = refl
+answer-number (unread r) = refl
+
+pub answered : (o : FormRead Header) {a : ScheduleRead} → a ≡ scheduleAnswer o → (a ≡ scheduleAnswer o) × (scheduleReadNo a ≡ formNo o)
+answered o e = (e, ap scheduleReadNo e ∙ answer-number o)
+
+-- reading o into room answers a and leaves e; a has the number of the refusal
+abbrev pub Reads : FormRead Header → List ℕ → ScheduleRead → List ℕ → Type 0
+Reads o room a e = (a ≡ scheduleAnswer (intoRoom o room)) × (e ≡ afterRoom o room) × (scheduleReadNo a ≡ roomNo o room)
+
+reads : (o f : FormRead Header) (room e : List ℕ) → Fills o room f e → Reads o room (scheduleAnswer f) e
+reads o f room e w = (ap scheduleAnswer (w .0), w .1, answer-number f ∙ w .2)
 
 module _ (room : List ℕ) where
   -- the form is refused
-  pub no-form : (r : Refusal) → Fills (refused r) room (schedule.Refused r) room
-  unfolding readAnswer afterRead
-  no-form r = record { answer = refl; after = refl }
+  pub no-form : (r : Refusal) → Reads (unread r) room (schedule.Refused r) room
+  unfolding scheduleAnswer
+  no-form r = reads (unread r) (unread r) room room (form-refused Header room r)
 
   -- the room is too small
-  pub small : (vs : List ℕ) (next : ℕ) → length room < headerOf vs .events * 3 → Fills (got vs next) room (schedule.Refused (record { no = 8 })) room
-  unfolding readAnswer afterRead
-  small vs next l = record { answer = rw (lt-ltb _ _ l); after = rw (lt-ltb _ _ l) }
+  pub small : (h : Header) (fields : List ℕ) → length room < length fields → Reads (readAs h fields) room (schedule.Refused (record { no = 8 })) room
+  unfolding scheduleAnswer
+  small h fields l = reads (readAs h fields) (unread (record { no = 8 })) room room (room-short Header room h fields l)
 
   -- the events fill its first places
-  pub filled : (vs : List ℕ) (next : ℕ) → headerOf vs .events * 3 ≤ length room → Fills (got vs next) room (schedule.Events (headerOf vs)) (sets room 0 (drop 6 vs))
-  unfolding readAnswer afterRead
-  filled vs next l = record { answer = rw (le-ltb _ _ l); after = rw (le-ltb _ _ l) }
+  pub filled : (h : Header) (fields : List ℕ) → length fields ≤ length room → Reads (readAs h fields) room (schedule.Events h) (sets room 0 fields)
+  unfolding scheduleAnswer
+  filled h fields l = reads (readAs h fields) (readAs h fields) room (sets room 0 fields) (room-enough Header room h fields l)
 
 -- ---- writing
-
--- writing a schedule into d answers w and leaves e
-pub record Writes (z : Sizes) (fields d : List ℕ) (w : Written) (e : List ℕ) : Type 0 where
-  pub answer : w ≡ writeAnswer z fields d
-  pub buffer : e ≡ afterWrite z fields d
 
 -- how many bytes a schedule takes
 pub form-length : (z : Sizes) (fields : List ℕ) → length (scheduleForm z fields) ≡ length (forms (numbersOf (headerFor z fields))) + length (forms fields)
@@ -56,35 +63,22 @@ unfolding scheduleForm
 form-length z fields = length-append (forms (numbersOf (headerFor z fields))) (forms fields)
 
 module _ (z : Sizes) (fields d : List ℕ) where
-  -- a value is refused
-  pub refuses : (scheduleNo z fields ≡ 0 → ⊥) → Writes z fields d (refusedWrite (scheduleNo z fields)) d
-  unfolding writeAnswer afterWrite
-  refuses h = record { answer = rw (ne-eqb (scheduleNo z fields) 0 h); buffer = rw (ne-eqb (scheduleNo z fields) 0 h) }
-
   -- the buffer is too short
-  pub short : scheduleNo z fields ≡ 0 → length d < length (scheduleForm z fields) → Writes z fields d (refusedWrite 8) d
-  unfolding writeAnswer afterWrite
-  short h l = record { answer = rw (eq-eqb (scheduleNo z fields) 0 h, lt-ltb _ _ l); buffer = rw (eq-eqb (scheduleNo z fields) 0 h, lt-ltb _ _ l) }
-
-  -- the schedule is written
-  pub wrote : scheduleNo z fields ≡ 0 → length (scheduleForm z fields) ≤ length d → Writes z fields d (written.Next (length (scheduleForm z fields))) (sets d 0 (scheduleForm z fields))
-  unfolding writeAnswer afterWrite
-  wrote h l = record { answer = rw (eq-eqb (scheduleNo z fields) 0 h, le-ltb _ _ l); buffer = rw (eq-eqb (scheduleNo z fields) 0 h, le-ltb _ _ l) }
+  pub short : scheduleNo z fields ≡ 0 → length d < length (scheduleForm z fields) → Puts (scheduleNo z fields) (scheduleForm z fields) d 0 (refusedWrite 8) d
+  short h l = no-room (scheduleNo z fields) (scheduleForm z fields) d 0 h (omega arith)
 
   -- the six are written and then the events
   pub both : (first : ℕ) → first ≡ length (forms (numbersOf (headerFor z fields))) → scheduleNo z fields ≡ 0 → length (scheduleForm z fields) ≤ length d
-      → Writes z fields d (writeAllAnswer limit.Schedule fields (afterWriteAll limit.Schedule (numbersOf (headerFor z fields)) d 0) first) (afterWriteAll limit.Schedule fields (afterWriteAll limit.Schedule (numbersOf (headerFor z fields)) d 0) first)
+      → let b = afterNumbers limit.Schedule (numbersOf (headerFor z fields)) d 0 in
+      (numbersWritten limit.Schedule fields b first ≡ scheduleWritten z fields d) × (afterNumbers limit.Schedule fields b first ≡ afterSchedule z fields d)
   unfolding scheduleForm
   both first p h l =
       let six = numbersOf (headerFor z fields) in
       let v = no-valid z fields h in
       let size = form-length z fields in
-      let a = all.wrote limit.Schedule six d 0 (six-within (headerFor z fields) (v .header)) (omega (arith, size)) in
+      let a = all.wrote limit.Schedule six d 0 (six-within (headerFor z fields) (v .header)) (omega (arith, size)) .1 in
       let b = all.wrote limit.Schedule fields (sets d 0 (forms six)) first (v .within) (omega (arith, size, length-sets d 0 (forms six))) in
-      let w = wrote h l in
-      let q : first + length (forms fields) ≡ length (scheduleForm z fields) = omega (arith, size) in
+      let w = wrote (scheduleNo z fields) (scheduleForm z fields) d 0 h (omega arith) in
+      let q : first + length (forms fields) ≡ 0 + length (scheduleForm z fields) = omega (arith, size) in
       let k : first ≡ 0 + length (forms six) = omega arith in
-      record {
-        answer = rw (sym (a .buffer)) (sym (b .answer) ∙ rw q (w .answer));
-        buffer = rw (sym (a .buffer)) (sym (b .buffer) ∙ rw k (sym (sets-append (forms six) (forms fields) d 0)) ∙ w .buffer);
-      }
+      rw (← a) (sym (b .0) ∙ ap written.Next q ∙ w .0, sym (b .1) ∙ rw k (sym (sets-append (forms six) (forms fields) d 0)) ∙ w .1)

@@ -8,73 +8,86 @@ use native.Mathlib.Omega.{arith}
 use lib.Dec.{eqb, ltb}
 use lib.ListN.{length, take, drop, replicate, length-append, take-append-drop}
 use lib.Seq.{take-all, length-take-le}
-use borrow.Author.Tests.{ltb-true, ltb-false, lt-ltb}
+use borrow.Author.Tests.{ltb-true, ltb-false, lt-ltb, eq-eqb}
 use Rattle.choice.specs.Choice.{if_then_else_}
 use Rattle.numbers.specs.Coding.{groupsOf}
 use Rattle.numbers.specs.declared.Limit.the-variants as limit
 use Rattle.numbers.specs.declared.Refusal.{Refusal}
-use Rattle.forms.specs.Forms.{Outcome, got, refused, refusedWith, untested, prepend, plain, whole, forms}
+use Rattle.forms.specs.Forms.{Outcome, got, refused, refusedWith, untested, plain, FormRead, readAs, unread, unreadWith, whole, forms}
 use Rattle.forms.proofs.Outcomes.{refused-got}
-use Rattle.forms.proofs.FormLaws.{Bytes, row-forms, whole-got}
+use Rattle.forms.proofs.FormLaws.{Bytes, row-forms}
+use Rattle.forms.proofs.Rooms.{unread-read}
 use Rattle.forms.proofs.Following.{row-more, plain-short}
-use Rattle.schedule.specs.Schedule.{headerOf, headerNo, events, readSchedule}
+use Rattle.schedule.specs.Schedule.{headerOf, headerNo, afterSix, readSchedule}
+use Rattle.schedule.specs.declared.Header.{Header}
 use Rattle.schedule.specs.declared.Checked.{Checked}
 use Rattle.schedule.proofs.Sixes.{plain-count, six-numbers}
 use Rattle.schedule.proofs.Parts.{Reading, no-six, no-header, no-events, follows, right, reading}
 use Rattle.schedule.proofs.Valid.{header-refusals, no-right}
-use Rattle.schedule.proofs.ScheduleLaws.{schedule-one-form, header-bytes, longest, refused-no}
+use Rattle.schedule.proofs.ScheduleLaws.{header-bytes, longest, refused-no}
 
 -- ---- bytes that follow
 
--- the six numbers and the events, before the end is looked at
-abbrev unended : List ℕ → Outcome
-unended s = events s (plain 6 limit.Schedule s 0)
-
-events-more : (s t : List ℕ) (o : Outcome) → (events s o ≡ refusedWith 11 → ⊥) → events (s ++ t) o ≡ events s o
-unfolding events prepend
-events-more s t (refused r) h = refl
-events-more s t (got six first) h = go (eqb (headerNo (headerOf six)) 0) h
-  where
-    go : (fine : Bool) → ((if fine then prepend six (plain (headerOf six .events * 3) limit.Schedule s first) else refusedWith (headerNo (headerOf six))) ≡ refusedWith 11 → ⊥)
-        → (if fine then prepend six (plain (headerOf six .events * 3) limit.Schedule (s ++ t) first) else refusedWith (headerNo (headerOf six)))
-        ≡ (if fine then prepend six (plain (headerOf six .events * 3) limit.Schedule s first) else refusedWith (headerNo (headerOf six)))
-    go true k = ap (prepend six) (row-more (replicate (headerOf six .events * 3) untested) limit.Schedule s t first (λ e. k (ap (prepend six) e)))
-    go false k = refl
-
-unended-more : (s t : List ℕ) → (unended s ≡ refusedWith 11 → ⊥) → unended (s ++ t) ≡ unended s
-unfolding events
-unended-more s t h =
-    ap (events (s ++ t)) (row-more (replicate 6 untested) limit.Schedule s t 0 (λ e. h (ap (events s) e)))
-    ∙ events-more s t (plain 6 limit.Schedule s 0) h
-
-whole-refused : (s t : List ℕ) (o : Outcome) {r : Refusal} → whole s o ≡ refused r → whole (s ++ t) o ≡ refused r
+whole-more : {H : Type 0} (s t : List ℕ) (header : H) (o : Outcome) {r : Refusal} → whole s header o ≡ unread r → whole (s ++ t) header o ≡ unread r
 unfolding whole
-whole-refused s t (refused q) e = e
-whole-refused s t (got vs next) {r} e = go (ltb next (length s)) refl e
+whole-more s t header (refused q) e = e
+whole-more {H} s t header (got vs next) {r} e = go (ltb next (length s)) refl e
   where
-    go : (rest : Bool) → ltb next (length s) ≡ rest → (if rest then refusedWith 13 else got vs next) ≡ refused r → (if ltb next (length (s ++ t)) then refusedWith 13 else got vs next) ≡ refused r
+    go : (rest : Bool) → ltb next (length s) ≡ rest → (if rest then unreadWith 13 else readAs header vs) ≡ unread r
+        → _≡_ {A = FormRead H} (if ltb next (length (s ++ t)) then unreadWith 13 else readAs header vs) (unread r)
     go true q h = rw (lt-ltb next (length (s ++ t)) (omega (arith, ltb-true next (length s) q, length-append s t))) h
-    go false q h = absurd (refused-got (sym h))
+    go false q h = absurd (unread-read (sym h))
+
+-- the events after six numbers, where they are not refused with 11
+events-more : (s t six : List ℕ) (first : ℕ) {r : Refusal} → (r .no ≡ 11 → ⊥)
+    → whole s (headerOf six) (plain (headerOf six .events * 3) limit.Schedule s first) ≡ unread r
+    → whole (s ++ t) (headerOf six) (plain (headerOf six .events * 3) limit.Schedule (s ++ t) first) ≡ unread r
+unfolding whole
+events-more s t six first {r} n e =
+    let k : plain (headerOf six .events * 3) limit.Schedule s first ≡ refusedWith 11 → ⊥ = λ q. n (refused-no (sym (ap (whole s (headerOf six)) q) ∙ e)) in
+    ap (whole (s ++ t) (headerOf six)) (row-more (replicate (headerOf six .events * 3) untested) limit.Schedule s t first k)
+    ∙ whole-more s t (headerOf six) (plain (headerOf six .events * 3) limit.Schedule s first) e
+
+after-more : (s t : List ℕ) (o : Outcome) {r : Refusal} → (r .no ≡ 11 → ⊥) → afterSix s o ≡ unread r → afterSix (s ++ t) o ≡ unread r
+unfolding afterSix
+after-more s t (refused q) n e = e
+after-more s t (got six first) {r} n e = go (eqb (headerNo (headerOf six)) 0) e
+  where
+    go : (fine : Bool) → (if fine then whole s (headerOf six) (plain (headerOf six .events * 3) limit.Schedule s first) else unreadWith (headerNo (headerOf six))) ≡ unread r
+        → (if fine then whole (s ++ t) (headerOf six) (plain (headerOf six .events * 3) limit.Schedule (s ++ t) first) else unreadWith (headerNo (headerOf six))) ≡ unread r
+    go true k = events-more s t six first n k
+    go false k = k
 
 -- a refusal other than 11 stands, whatever bytes follow
-pub refused-more : (s t : List ℕ) {r : Refusal} → readSchedule s ≡ refused r → (r .no ≡ 11 → ⊥) → readSchedule (s ++ t) ≡ refused r
-unfolding readSchedule whole
+pub refused-more : (s t : List ℕ) {r : Refusal} → readSchedule s ≡ unread r → (r .no ≡ 11 → ⊥) → readSchedule (s ++ t) ≡ unread r
+unfolding readSchedule afterSix
 refused-more s t {r} e n =
-    let k : unended s ≡ refusedWith 11 → ⊥ = λ q. n (refused-no (sym (ap (whole s) q) ∙ e)) in
-    ap (whole (s ++ t)) (unended-more s t k) ∙ whole-refused s t (unended s) e
+    let k : plain 6 limit.Schedule s 0 ≡ refusedWith 11 → ⊥ = λ q. n (refused-no (sym (ap (afterSix s) q) ∙ e)) in
+    ap (afterSix (s ++ t)) (row-more (replicate 6 untested) limit.Schedule s t 0 k) ∙ after-more s t (plain 6 limit.Schedule s 0) n e
 
 -- bytes that follow a schedule that is read give 13
-pub read-more : (s t : List ℕ) {vs : List ℕ} {next : ℕ} → Bytes s → readSchedule s ≡ got vs next → 0 < length t → readSchedule (s ++ t) ≡ refusedWith 13
-unfolding readSchedule whole
-read-more s t {vs} {next} b e l =
-    let w = whole-got s (unended s) e in
-    let k : unended s ≡ refusedWith 11 → ⊥ = λ q. refused-got (sym q ∙ w .0) in
-    let n : next < length (s ++ t) = omega (arith, schedule-one-form s b e .ends, length-append s t) in
-    ap (whole (s ++ t)) (unended-more s t k ∙ w .0) ∙ rw (lt-ltb next (length (s ++ t)) n)
+pub read-more : (s t : List ℕ) {h : Header} {fields : List ℕ} → Bytes s → readSchedule s ≡ readAs h fields → 0 < length t → readSchedule (s ++ t) ≡ unreadWith 13
+unfolding readSchedule afterSix whole
+read-more s t {h} {fields} b e l = go (reading s) e
+  where
+    go : {k : Checked} {o : FormRead Header} → Reading s k o → o ≡ readAs h fields → readSchedule (s ++ t) ≡ unreadWith 13
+    go (no-six a) q = absurd (unread-read q)
+    go (no-header a n) q = absurd (unread-read q)
+    go (no-events a n d) q = absurd (unread-read q)
+    go (follows a n d m) q = absurd (unread-read q)
+    go (right {six = six} {ws = ws} {first = first} {next = next} a n d m) q =
+        let x : plain 6 limit.Schedule (s ++ t) 0 ≡ got six first = row-more (replicate 6 untested) limit.Schedule s t 0 (λ p. refused-got (sym p ∙ a)) ∙ a in
+        let y : plain (headerOf six .events * 3) limit.Schedule (s ++ t) first ≡ got ws next = row-more (replicate (headerOf six .events * 3) untested) limit.Schedule s t first (λ p. refused-got (sym p ∙ d)) ∙ d in
+        let i = row-forms (replicate 6 untested) limit.Schedule s 0 b a .stands .inside (omega arith) in
+        let j = row-forms (replicate (headerOf six .events * 3) untested) limit.Schedule s first b d .stands .inside i in
+        rw (x, eq-eqb (headerNo (headerOf six)) 0 n, y, lt-ltb next (length (s ++ t)) (omega (arith, length-append s t)))
 
 -- ---- where the bytes end
 
-not-eleven : {n : ℕ} → (n ≡ 1) ⊎ (n ≡ 3) ⊎ (n ≡ 13) → refusedWith n ≡ refusedWith 11 → ⊥
+unread-one : {q r : Refusal} → _≡_ {A = FormRead Header} (unread q) (unread r) → q ≡ r
+unread-one e = cc
+
+not-eleven : {n : ℕ} → (n ≡ 1) ⊎ (n ≡ 3) ⊎ (n ≡ 13) → unreadWith {H = Header} n ≡ unreadWith 11 → ⊥
 not-eleven h e = go h (refused-no e)
   where
     go : {n : ℕ} → (n ≡ 1) ⊎ (n ≡ 3) ⊎ (n ≡ 13) → 11 ≡ n → ⊥
@@ -83,20 +96,20 @@ not-eleven h e = go h (refused-no e)
     go (inr (inr p)) q = omega arith
 
 -- 11 is given only to fewer bytes than the longest schedule has
-pub eleven-short : (s : List ℕ) → Bytes s → readSchedule s ≡ refusedWith 11 → length s < 36_872
+pub eleven-short : (s : List ℕ) → Bytes s → readSchedule s ≡ unreadWith 11 → length s < 36_872
 unfolding groupsOf
 eleven-short s b e = go (reading s) e
   where
-    go : {k : Checked} {o : Outcome} → Reading s k o → o ≡ refusedWith 11 → length s < 36_872
-    go (no-six a) q = omega (arith, plain-short 6 limit.Schedule s 0 b (a ∙ q))
+    go : {k : Checked} {o : FormRead Header} → Reading s k o → o ≡ unreadWith 11 → length s < 36_872
+    go (no-six a) q = omega (arith, plain-short 6 limit.Schedule s 0 b (a ∙ ap refused (unread-one q)))
     go (no-header {six = six} a h) q = absurd (not-eleven (elim (header-refusals (headerOf six) h) [ inl p ↦ inl p | inr p ↦ inr (inl p) ]) q)
     go (no-events {six = six} {first = first} a h d) q =
         let right = no-right (headerOf six) h in
         let start = row-forms (replicate 6 untested) limit.Schedule s 0 b a .stands .place in
         let few : length (forms six) ≤ 8 = rw (six-numbers six (plain-count 6 limit.Schedule s 0 a)) at (header-bytes (headerOf six) right) in
-        omega (arith, plain-short (headerOf six .events * 3) limit.Schedule s first b (d ∙ q), right .count)
+        omega (arith, plain-short (headerOf six .events * 3) limit.Schedule s first b (d ∙ ap refused (unread-one q)), right .count)
     go (follows a h d l) q = absurd (not-eleven (inr (inr refl)) q)
-    go (right a h d l) q = absurd (refused-got (sym q))
+    go (right a h d l) q = absurd (unread-read (sym q))
 
 -- ---- every file
 
@@ -110,9 +123,9 @@ bytes-take (suc n) (x ∷ s) h (suc k) = bytes-take n s (λ (j : ℕ). h (suc j)
 beginning : (s t : List ℕ) → Bytes s → 36_873 ≤ length s → readSchedule (s ++ t) ≡ readSchedule s
 beginning s t b l = go (readSchedule s) refl
   where
-    go : (o : Outcome) → readSchedule s ≡ o → readSchedule (s ++ t) ≡ o
-    go (got vs next) e = absurd (omega (arith, longest s b e))
-    go (refused r) e = refused-more s t e (λ n. omega (arith, eleven-short s b (e ∙ ap refusedWith n)))
+    go : (o : FormRead Header) → readSchedule s ≡ o → readSchedule (s ++ t) ≡ o
+    go (readAs h fields) e = absurd (omega (arith, longest s b e))
+    go (unread r) e = refused-more s t e (λ n. omega (arith, eleven-short s b (e ∙ ap unreadWith n)))
 
 -- one byte past the longest schedule decides what is read, and a reader may leave out all that stands behind it
 pub schedule-decided : (n : ℕ) (bytes : List ℕ) → 36_873 ≤ n → Bytes bytes → readSchedule (take n bytes) ≡ readSchedule bytes

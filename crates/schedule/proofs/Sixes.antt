@@ -99,15 +99,7 @@ six-numbers (p ∷ a ∷ l ∷ m ∷ []) h = absurd (omega arith)
 six-numbers (p ∷ a ∷ l ∷ m ∷ s ∷ []) h = absurd (omega arith)
 six-numbers (p ∷ a ∷ l ∷ m ∷ s ∷ e ∷ x ∷ xs) h = absurd (omega arith)
 
--- the numbers of a header make it, whatever follows them
-pub numbers-header : (h : Header) (ws : List ℕ) → headerOf (numbersOf h ++ ws) ≡ h
-unfolding numbersOf headerOf
-numbers-header h ws = refl
-
+-- the numbers of a header make it
 pub header-numbers : (h : Header) → headerOf (numbersOf h) ≡ h
 unfolding numbersOf headerOf
 header-numbers h = refl
-
--- what follows six numbers does not change their header
-pub header-append : (six ws : List ℕ) → length six ≡ 6 → headerOf (six ++ ws) ≡ headerOf six
-header-append six ws e = rw (← six-numbers six e) (numbers-header (headerOf six) ws ∙ sym (ap headerOf (six-numbers six e)))

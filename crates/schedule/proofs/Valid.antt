@@ -21,11 +21,6 @@ use Rattle.schedule.specs.declared.Header.{Header}
 
 -- ---- the header
 
--- a refusal stands, whatever comes after it
-pub stands : (n rest : ℕ) → (n ≡ 0 → ⊥) → (refusal n ⨾ rest) ≡ n
-stands zero rest h = absurd (h refl)
-stands (suc n) rest h = refl
-
 -- a header whose sizes are in range and that has at most 4,096 events
 pub record Right (h : Header) : Type 0 where
   pub sizes : sizesInRange (h .sizes) ≡ true

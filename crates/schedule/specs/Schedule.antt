@@ -1,18 +1,15 @@
 -- The schedule of document 01, "Written forms".
 use mathlib.Core.List.{List, [], _∷_, _++_}
 use Prim.Native.Nat.{ℕ, _*_, _/_, _%_}
-use lib.Dec.{eqb, ltb, leb}
-use lib.ListN.{length, drop, getD}
-use lib.Seq.{sets}
-use Rattle.choice.specs.Choice.{if_then_else_}
+use lib.Dec.{eqb, leb}
+use lib.ListN.{length, getD}
 use Rattle.choice.specs.Tests.{_unless_, refusal, _⨾_, ok}
 use Rattle.sizes.specs.Sizes.{sizesInRange}
 use Rattle.sizes.specs.declared.Sizes.{Sizes}
-use Rattle.numbers.specs.Coding.{mostOf, refusedWrite, leaves}
+use Rattle.numbers.specs.Coding.{mostOf, putNo, putAnswer, afterPut}
 use Rattle.numbers.specs.declared.Limit.the-variants as limit
 use Rattle.numbers.specs.declared.Written.{Written}
-use Rattle.numbers.specs.declared.Written.the-variants as written
-use Rattle.forms.specs.Forms.{Outcome, got, refused, refusedWith, prepend, plain, whole, forms, allWithin}
+use Rattle.forms.specs.Forms.{Outcome, got, refused, plain, FormRead, readAs, unread, unlessRefused, whole, forms, allWithin}
 use Rattle.schedule.specs.declared.Header.{Header}
 use Rattle.schedule.specs.declared.ScheduleRead.{ScheduleRead}
 use Rattle.schedule.specs.declared.ScheduleRead.the-variants as schedule
@@ -50,34 +47,21 @@ headerNo h =
 
 -- ---- reading
 
--- after the six come E events of code, a, b; codes are not tested
-unfoldable pub events : List ℕ → Outcome → Outcome
-events bytes (got six next) =
-    if eqb (headerNo (headerOf six)) 0
-    then prepend six (plain (headerOf six .events * 3) limit.Schedule bytes next)
-    else refusedWith (headerNo (headerOf six))
-events bytes (refused r) = refused r
+-- after the six come E events of code, a, b, and then the end; codes are not tested
+unfoldable pub afterSix : List ℕ → Outcome → FormRead Header
+afterSix bytes (got six next) =
+    unlessRefused (headerNo (headerOf six))
+    (whole bytes (headerOf six) (plain (headerOf six .events * 3) limit.Schedule bytes next))
+afterSix bytes (refused r) = unread r
 
-unfoldable pub readSchedule : List ℕ → Outcome
-readSchedule bytes = whole bytes (events bytes (plain 6 limit.Schedule bytes 0))
+-- what reading a schedule gives: its header and the numbers of its events, or a refusal
+unfoldable pub readSchedule : List ℕ → FormRead Header
+readSchedule bytes = afterSix bytes (plain 6 limit.Schedule bytes 0)
 
--- what the form alone answers: the six numbers, or the refusal
-unfoldable pub checkAnswer : Outcome → ScheduleRead
-checkAnswer (got vs next) = schedule.Events (headerOf vs)
-checkAnswer (refused r) = schedule.Refused r
-
--- what reading into room answers: 8, after all else, where the room is smaller than the events
-unfoldable pub readAnswer : Outcome → List ℕ → ScheduleRead
-readAnswer (got vs next) room =
-    if ltb (length room) (headerOf vs .events * 3)
-    then schedule.Refused (record { no = 8 })
-    else schedule.Events (headerOf vs)
-readAnswer (refused r) room = schedule.Refused r
-
--- a refusal leaves the room as it was; the numbers of the events fill its first places
-unfoldable pub afterRead : Outcome → List ℕ → List ℕ
-afterRead (got vs next) room = if ltb (length room) (headerOf vs .events * 3) then room else sets room 0 (drop 6 vs)
-afterRead (refused r) room = room
+-- what it answers: the six numbers, or the refusal
+unfoldable pub scheduleAnswer : FormRead Header → ScheduleRead
+scheduleAnswer (readAs header fields) = schedule.Events header
+scheduleAnswer (unread r) = schedule.Refused r
 
 -- ---- writing
 
@@ -101,15 +85,15 @@ scheduleNo z fields =
 unfoldable pub scheduleForm : Sizes → List ℕ → List ℕ
 scheduleForm z fields = forms (numbersOf (headerFor z fields)) ++ forms fields
 
--- what writing into a buffer answers
-unfoldable pub writeAnswer : Sizes → List ℕ → List ℕ → Written
-writeAnswer z fields buffer =
-    if eqb (scheduleNo z fields) 0
-    then (if ltb (length buffer) (length (scheduleForm z fields)) then refusedWrite 8 else written.Next (length (scheduleForm z fields)))
-    else refusedWrite (scheduleNo z fields)
+-- a schedule at the start of a buffer: the refusal, the answer, the buffer after it
+abbrev pub scheduleWrittenNo : Sizes → List ℕ → List ℕ → ℕ
+scheduleWrittenNo z fields buffer = putNo (scheduleNo z fields) (scheduleForm z fields) buffer 0
 
-unfoldable pub afterWrite : Sizes → List ℕ → List ℕ → List ℕ
-afterWrite z fields buffer = leaves (writeAnswer z fields buffer) (sets buffer 0 (scheduleForm z fields)) buffer
+abbrev pub scheduleWritten : Sizes → List ℕ → List ℕ → Written
+scheduleWritten z fields buffer = putAnswer (scheduleNo z fields) (scheduleForm z fields) buffer 0
+
+abbrev pub afterSchedule : Sizes → List ℕ → List ℕ → List ℕ
+afterSchedule z fields buffer = afterPut (scheduleNo z fields) (scheduleForm z fields) buffer 0
 
 -- ---- an answer as numbers
 

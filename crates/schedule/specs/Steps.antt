@@ -1,11 +1,11 @@
 -- What the reader does in one step after another: the contracts of its private functions.
 use mathlib.Core.List.{List}
 use Prim.Native.Nat.{ℕ, _*_}
-use lib.Dec.{eqb, ltb}
+use lib.Dec.{eqb}
 use lib.ListN.{length}
 use Rattle.choice.specs.Choice.{if_then_else_}
 use Rattle.numbers.specs.declared.Limit.the-variants as limit
-use Rattle.forms.specs.Forms.{Outcome, got, refused, plain, placeOf}
+use Rattle.forms.specs.Forms.{Outcome, got, refused, plain, placeOf, endedAt}
 use Rattle.forms.specs.declared.Place.{Place}
 use Rattle.forms.specs.declared.Place.the-variants as place
 use Rattle.schedule.specs.Schedule.{headerOf, headerNo}
@@ -13,16 +13,16 @@ use Rattle.schedule.specs.declared.Header.{Header}
 use Rattle.schedule.specs.declared.Checked.{Checked}
 use Rattle.schedule.specs.declared.Checked.the-variants as form
 
--- the end of a schedule whose events end at a place
-abbrev pub endedAt : ℕ → Place → Header → ℕ → Checked
-endedAt end (place.Next next) h first = if ltb next end then form.Refused (record { no = 13 }) else form.Form h first
-endedAt end (place.Refused r) h first = form.Refused r
+-- a header and the place of the first event, where the form ends as it should
+abbrev pub formedAt : Place → Header → ℕ → Checked
+formedAt (place.Next next) h first = form.Form h first
+formedAt (place.Refused r) h first = form.Refused r
 
 -- the events after a header
 unfoldable pub checkedAfter : List ℕ → Outcome → Checked
 checkedAfter bytes (got six next) =
     if eqb (headerNo (headerOf six)) 0
-    then endedAt (length bytes) (placeOf (plain (headerOf six .events * 3) limit.Schedule bytes next)) (headerOf six) next
+    then formedAt (endedAt (length bytes) (placeOf (plain (headerOf six .events * 3) limit.Schedule bytes next))) (headerOf six) next
     else form.Refused (record { no = headerNo (headerOf six) })
 checkedAfter bytes (refused r) = form.Refused r
 

@@ -3,9 +3,10 @@
 ghost use mathlib.Core.Path.{_≡_};
 ghost use Prim.Native.Nat.{ℕ, _<_};
 ghost use lib.ListN.{length, getD};
-ghost use Rattle.forms.specs.Forms.{forms};
-ghost use Rattle.schedule.specs.Schedule.{headerOf, numbersOf, headerNo, readSchedule, checkAnswer, readAnswer, afterRead, scheduleNo, writeAnswer, afterWrite};
-ghost use Rattle.schedule.specs.Steps.{checked, endedAt};
+ghost use Rattle.numbers.specs.Coding.{writtenNo};
+ghost use Rattle.forms.specs.Forms.{formNo, roomNo, intoRoom, afterRoom, forms};
+ghost use Rattle.schedule.specs.Schedule.{headerOf, numbersOf, headerNo, readSchedule, scheduleAnswer, scheduleNo, scheduleWritten, afterSchedule, scheduleWrittenNo, scheduleReadNo};
+ghost use Rattle.schedule.specs.Steps.{checked};
 use forms::Place;
 use numbers::Limit;
 use numbers::Refusal;
@@ -76,22 +77,6 @@ fn header_no(header: Header) -> u8
     if 4096 < events { 3 } else { 0 }
 }
 
-// The end of a schedule whose events end at a place: 13 where bytes follow.
-fn ended(length: usize, place: Place, header: Header, first: usize) -> Checked
-    ensures { λ r. ⌜ r ≡ endedAt length place header first ⌝ }
-{
-    match place {
-        Place::Next(next) => {
-            if next < length {
-                Checked::Refused(Refusal { no: 13 })
-            } else {
-                Checked::Form { header, first }
-            }
-        }
-        Place::Refused(refusal) => Checked::Refused(refusal),
-    }
-}
-
 // The whole form of a schedule.
 fn check(bytes: &[u8]) -> Checked
     ensures { λ r. ⌜ r ≡ checked (now (bytes .entry)) ⌝ }
@@ -107,12 +92,14 @@ fn check(bytes: &[u8]) -> Checked
                 return Checked::Refused(Refusal { no });
             }
             let count = header.events as usize * 3;
-            ended(
+            let end = forms::ended(
                 bytes.len(),
                 forms::skip_numbers(bytes, first, Limit::Schedule, count),
-                header,
-                first,
-            )
+            );
+            match end {
+                Place::Next(_) => Checked::Form { header, first },
+                Place::Refused(refusal) => Checked::Refused(refusal),
+            }
         }
         Place::Refused(refusal) => Checked::Refused(refusal),
     }
@@ -120,7 +107,7 @@ fn check(bytes: &[u8]) -> Checked
 
 // Whether the bytes are a schedule: its six numbers, or the refusal.
 pub fn check_schedule(bytes: &[u8]) -> ScheduleRead
-    ensures { λ r. ⌜ r ≡ checkAnswer (readSchedule (now (bytes .entry))) ⌝ }
+    ensures { λ r. ⌜ (r ≡ scheduleAnswer (readSchedule (now (bytes .entry)))) × (scheduleReadNo r ≡ formNo (readSchedule (now (bytes .entry)))) ⌝ }
 {
     let answer = check(bytes);
     match answer {
@@ -131,7 +118,7 @@ pub fn check_schedule(bytes: &[u8]) -> ScheduleRead
 
 // Reads a schedule into lent room, three numbers for each event. A refusal leaves the room as it was; so do the places past the last event.
 pub fn read_schedule(room: &mut [u64], bytes: &[u8]) -> ScheduleRead
-    ensures { λ r. ⌜ (r ≡ readAnswer (readSchedule (now (bytes .entry))) (now (room .entry))) × (now (room .exit) ≡ afterRead (readSchedule (now (bytes .entry))) (now (room .entry))) ⌝ }
+    ensures { λ r. ⌜ (r ≡ scheduleAnswer (intoRoom (readSchedule (now (bytes .entry))) (now (room .entry)))) × (now (room .exit) ≡ afterRoom (readSchedule (now (bytes .entry))) (now (room .entry))) × (scheduleReadNo r ≡ roomNo (readSchedule (now (bytes .entry))) (now (room .entry))) ⌝ }
 {
     let answer = check(bytes);
     match answer {
@@ -188,7 +175,7 @@ fn schedule_no(sizes: Sizes, fields: &[u64]) -> u8
 
 // Writes the schedule of a run's sizes and whole events, three numbers for each. A refusal leaves the buffer as it was; so do the bytes past the text.
 pub fn write_schedule(buffer: &mut [u8], sizes: Sizes, fields: &[u64]) -> Written
-    ensures { λ r. ⌜ (r ≡ writeAnswer sizes (now (fields .entry)) (now (buffer .entry))) × (now (buffer .exit) ≡ afterWrite sizes (now (fields .entry)) (now (buffer .entry))) ⌝ }
+    ensures { λ r. ⌜ (r ≡ scheduleWritten sizes (now (fields .entry)) (now (buffer .entry))) × (now (buffer .exit) ≡ afterSchedule sizes (now (fields .entry)) (now (buffer .entry))) × (writtenNo r ≡ scheduleWrittenNo sizes (now (fields .entry)) (now (buffer .entry))) ⌝ }
 {
     let no = schedule_no(sizes, fields);
     if no != 0 {

@@ -1,10 +1,13 @@
 -- `schedule::check` meets its contract: the six that are taken are those that were passed over. Assumes nothing.
 use mathlib.Core.Path.{_≡_, refl, sym, ap, _∙_}
 use native.Mathlib.Omega.{arith}
-use lib.ListN.{replicate}
+use lib.ListN.{length, replicate}
 use borrow.Author.Needs.{needs}
 use Rattle.numbers.specs.declared.Limit.the-variants as limit
-use Rattle.forms.specs.Forms.{got, plain}
+use Prim.Native.Nat.{_*_}
+use Rattle.forms.specs.Forms.{got, plain, placeOf, endedAt}
+use Rattle.forms.specs.declared.Place.{Place}
+use Rattle.schedule.specs.declared.Header.{Header}
 use Rattle.schedule.specs.Schedule.{headerOf, headerNo}
 use Rattle.schedule.proofs.Parts.{place-refused, six-passed, six-small, check-no-six, check-no-header, check-events}
 use Rattle.schedule.proofs.check.Statement.{statement}
@@ -50,18 +53,39 @@ skip-numbers-requires-2 c κs = search needs
 ended-requires : tie.Need-ended-requires
 ended-requires c κs = search needs
 
+enum-told : tie.Need-enum-told
+enum-told c = search needs
+
+enum-known-end : tie.Need-enum-known-end
+enum-known-end c = search needs
+
 enum-known-place-2 : tie.Need-enum-known-place-2
 enum-known-place-2 c = search needs
 
 returns-2 : tie.Need-returns-2
 returns-2 c =
-    let six = six (c .before .before .before .before .before .before) in
-    let h : c .before .before .before .before .before .header-of .result ≡ headerOf (c .before .before .before .before .before .before .before .take-numbers .last .0) = c .before .before .before .before .before .header-of .ensures in
-    let n : headerNo (headerOf (c .before .before .before .before .before .before .before .take-numbers .last .0)) ≡ 0 = ap headerNo (sym h) ∙ sym (c .before .before .before .before .header-no .ensures) ∙ c .before .before .before .if1 .left in
-    c .ended .ensures ∙ rw (c .before .skip-numbers2 .ensures, h) (sym (check-events (c .before .before .before .before .before .before .before .before .before .before .before .before .before .before .args .bytes .now) six n))
+    let p = c .before .before in
+    let x = p .before .before .before .before .before .before in
+    let h : p .before .before .before .before .before .header-of .result ≡ headerOf (x .before .take-numbers .last .0) = p .before .before .before .before .before .header-of .ensures in
+    let n : headerNo (headerOf (x .before .take-numbers .last .0)) ≡ 0 = ap headerNo (sym h) ∙ sym (p .before .before .before .before .header-no .ensures) ∙ p .before .before .before .if1 .left in
+    let bytes = x .before .before .before .before .before .before .before .before .args .bytes .now in
+    let at : Header → Place = λ g. placeOf (plain (g .events * 3) limit.Schedule bytes (x .before .before .before .before .place .given .0 .0)) in
+    let q = sym (p .ended .ensures ∙ ap (endedAt (length bytes)) (p .before .skip-numbers2 .ensures ∙ ap at h)) ∙ c .enum-told .given .1 in
+    rw h (sym (check-events bytes (six x) n q))
 
 returns-3 : tie.Need-returns-3
 returns-3 c =
+    let p = c .before .before .before in
+    let x = p .before .before .before .before .before .before in
+    let h : p .before .before .before .before .before .header-of .result ≡ headerOf (x .before .take-numbers .last .0) = p .before .before .before .before .before .header-of .ensures in
+    let n : headerNo (headerOf (x .before .take-numbers .last .0)) ≡ 0 = ap headerNo (sym h) ∙ sym (p .before .before .before .before .header-no .ensures) ∙ p .before .before .before .if1 .left in
+    let bytes = x .before .before .before .before .before .before .before .before .args .bytes .now in
+    let at : Header → Place = λ g. placeOf (plain (g .events * 3) limit.Schedule bytes (x .before .before .before .before .place .given .0 .0)) in
+    let q = sym (p .ended .ensures ∙ ap (endedAt (length bytes)) (p .before .skip-numbers2 .ensures ∙ ap at h)) ∙ c .before .end .given .1 in
+    sym (check-events bytes (six x) n q)
+
+returns-4 : tie.Need-returns-4
+returns-4 c =
     let bytes = c .before .before .before .before .before .args .bytes .now in
     let e = sym (c .before .before .before .skip-numbers .ensures) ∙ c .before .place2 .given .1 in
     sym (check-no-six bytes (place-refused (plain 6 limit.Schedule bytes 0) e))
@@ -81,6 +105,9 @@ check-spec =
     mul-count
     skip-numbers-requires-2
     ended-requires
+    enum-told
+    enum-known-end
     enum-known-place-2
     returns-2
-    returns-3)
+    returns-3
+    returns-4)

@@ -1,5 +1,6 @@
 -- `schedule::read_schedule` meets its contract: the room is filled only where the whole form is right and it is large enough. Assumes nothing.
 use mathlib.Core.Path.{sym, _∙_}
+use native.Mathlib.Omega.{arith}
 use borrow.Author.Needs.{needs}
 use Rattle.schedule.proofs.Parts.{check-form, check-refused}
 use Rattle.schedule.proofs.Answers.{no-form, small, filled}
@@ -22,8 +23,7 @@ returns : tie.Need-returns
 returns c =
     let a = c .before .before .before .before .before .before .before .before .args in
     let f = check-form (a .bytes .now) (sym (c .before .before .before .before .before .check .ensures) ∙ c .before .before .before .answer .given .1) in
-    let w = small (a .room .now) (f .vs) (f .next) (rw (f .header) (c .if1 .taken)) in
-    rw (f .read) (w .answer, w .after)
+    rw (f .read) (small (a .room .now) (c .before .before .before .answer .given .0 .0) (f .fields) (omega (arith, f .count)))
 
 take-numbers-requires : tie.Need-take-numbers-requires
 take-numbers-requires c κs = search needs
@@ -38,15 +38,14 @@ returns-2 : tie.Need-returns-2
 returns-2 c =
     let a = c .before .before .before .before .before .before .before .before .before .before .before .before .args in
     let f = check-form (a .bytes .now) (sym (c .before .before .before .before .before .before .before .before .before .check .ensures) ∙ c .before .before .before .before .before .before .before .answer .given .1) in
-    let w = filled (a .room .now) (f .vs) (f .next) (rw (f .header) (c .before .before .before .before .if1 .left)) in
-    rw (f .read) (rw (f .header) at (w .answer), rw (c .before .before .take-numbers .ensures, f .taken) (w .after))
+    let w = filled (a .room .now) (c .before .before .before .before .before .before .before .answer .given .0 .0) (f .fields) (omega (arith, f .count)) in
+    rw (f .read) (w .0, rw (c .before .before .take-numbers .ensures, f .taken) (w .1), w .2)
 
 returns-3 : tie.Need-returns-3
 returns-3 c =
     let a = c .before .before .before .before .before .before .args in
     let e = sym (c .before .before .before .check .ensures) ∙ c .before .answer2 .given .1 in
-    let w = no-form (a .room .now) (c .before .answer2 .given .0 .0) in
-    rw (check-refused (a .bytes .now) e) (w .answer, w .after)
+    rw (check-refused (a .bytes .now) e) (no-form (a .room .now) (c .before .answer2 .given .0 .0))
 
 pub read-schedule-spec : {M : Type 1} → statement M
 read-schedule-spec =

@@ -1,15 +1,17 @@
 -- `schedule::write_schedule` meets its contract: the tests lead to the answers of the writer, and the six are written and then the events. Assumes
 -- nothing.
-use mathlib.Core.Path.{sym, ap, _∙_}
+use mathlib.Core.Path.{_≡_, sym, ap, _∙_}
 use Prim.Native.Nat.{_-_}
 use native.Mathlib.Omega.{arith}
 use lib.ListN.{length}
 use borrow.Author.Needs.{needs}
 use borrow.Author.Tests.{leb-true, leb-false, not-true, not-false}
 use Rattle.forms.specs.Forms.{forms}
-use Rattle.numbers.specs.Coding.{refusedWrite}
+use Rattle.numbers.specs.Coding.{refusedWrite, writtenNo}
+use Rattle.numbers.proofs.Puts.{refuses, put-number}
+use Rattle.schedule.specs.Schedule.{scheduleNo, scheduleForm, scheduleWritten}
 use Rattle.schedule.proofs.Valid.{no-valid}
-use Rattle.schedule.proofs.Answers.{refuses, short, form-length, both}
+use Rattle.schedule.proofs.Answers.{short, form-length, both}
 use Rattle.schedule.proofs.write_schedule.Statement.{statement}
 use Rattle.schedule.proofs.write_schedule.Tie as tie
 
@@ -20,8 +22,8 @@ returns : tie.Need-returns
 returns c =
     let a = c .before .before .before .before .args in
     let n = c .before .schedule-no .ensures in
-    let w = refuses (a .sizes) (a .fields .now) (a .buffer .now) (λ z. c .if1 .taken (n ∙ z)) in
-    (ap refusedWrite n ∙ w .answer, w .buffer)
+    let w = refuses (scheduleNo (a .sizes) (a .fields .now)) (scheduleForm (a .sizes) (a .fields .now)) (a .buffer .now) 0 (λ z. c .if1 .taken (n ∙ z)) in
+    (ap refusedWrite n ∙ w .0, w .1, n ∙ w .2)
 
 cast-t13 : tie.Need-cast-t13
 cast-t13 c =
@@ -36,8 +38,7 @@ returns-2 c =
     let a = c .before .before .before .before .before .before .args in
     let n = sym (c .before .before .before .schedule-no .ensures) ∙ c .before .before .if1 .left in
     let l = form-length (a .sizes) (a .fields .now) in
-    let w = short (a .sizes) (a .fields .now) (a .buffer .now) n (omega (arith, l)) in
-    (w .answer, w .buffer)
+    short (a .sizes) (a .fields .now) (a .buffer .now) n (omega (arith, l))
 
 fit-in-requires : tie.Need-fit-in-requires
 fit-in-requires c κs = search needs
@@ -48,8 +49,7 @@ returns-3 c =
     let n = sym (c .before .before .before .before .before .schedule-no .ensures) ∙ c .before .before .before .before .if1 .left in
     let l = form-length (a .sizes) (a .fields .now) in
     let f = leb-false (length (forms (a .fields .now))) (length (a .buffer .now) - c .before .before .before .header-width .result) (sym (c .before .fit-in .ensures) ∙ not-true _ (c .if3 .taken)) in
-    let w = short (a .sizes) (a .fields .now) (a .buffer .now) n (omega (arith, l)) in
-    (w .answer, w .buffer)
+    short (a .sizes) (a .fields .now) (a .buffer .now) n (omega (arith, l))
 
 numbers-of-requires : tie.Need-numbers-of-requires
 numbers-of-requires c κs = search needs
@@ -77,7 +77,8 @@ returns-4 c =
     let six = c .before .before .before .before .before .before .before .before .before .numbers-of .ensures in
     let one = c .before .before .before .before .before .before .write-numbers .ensures .1 in
     let two = c .before .before .write-numbers2 .ensures in
-    (two .0 ∙ rw (one, six) (w .answer), two .1 ∙ rw (one, six) (w .buffer))
+    let q : c .before .before .write-numbers2 .result ≡ scheduleWritten (a .sizes) (a .fields .now) (a .buffer .now) = two .0 ∙ rw (one, six) (w .0) in
+    (q, two .1 ∙ rw (one, six) (w .1), ap writtenNo q ∙ put-number (scheduleNo (a .sizes) (a .fields .now)) (scheduleForm (a .sizes) (a .fields .now)) (a .buffer .now) 0)
 
 pub write-schedule-spec : {M : Type 1} → statement M
 write-schedule-spec =

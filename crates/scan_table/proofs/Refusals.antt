@@ -15,8 +15,9 @@ use Rattle.numbers.specs.declared.Refusal.{Refusal}
 use Rattle.numbers.specs.declared.Read.{Read}
 use Rattle.numbers.specs.declared.Read.the-variants as read
 use Rattle.numbers.proofs.CodingLaws.{refusals}
-use Rattle.forms.specs.Forms.{Outcome, got, refused, refusedWith, Test, testRead, prepend, andThen, row, rows, whole, rowNo, rowsNo, asRead}
+use Rattle.forms.specs.Forms.{Outcome, got, refused, refusedWith, Test, testRead, prepend, andThen, row, rows, FormRead, readAs, unread, unreadWith, unlessRefused, whole, rowNo, rowsNo, asRead}
 use Rattle.forms.proofs.Outcomes.{refused-got}
+use Rattle.forms.proofs.Rooms.{unread-read}
 
 -- every refusal of a test has P
 abbrev pub Gives : (ℕ → Type 0) → Test → Type 0
@@ -25,6 +26,10 @@ Gives P test = (v : ℕ) → (test v ≡ 0 → ⊥) → P (test v)
 -- every refusal of an outcome has P
 abbrev pub Refuses : (ℕ → Type 0) → Outcome → Type 0
 Refuses P o = (r : Refusal) → o ≡ refused r → P (r .no)
+
+-- every refusal of a form has P
+abbrev pub Unreads : {H : Type 0} → (ℕ → Type 0) → FormRead H → Type 0
+Unreads P f = (r : Refusal) → f ≡ unread r → P (r .no)
 
 -- every refusal of each test of a row has P
 pub data All (P : ℕ → Type 0) : List Test → Type 0 where
@@ -100,7 +105,8 @@ module _ (P : ℕ → Type 0) where
           rw (← p) (g v (eqb-false (test v) 0 h))
 
   module _ (limit : Limit) (bytes : List ℕ) (eleven : P 11) (twelve : P 12) where
-    read-refuses : (at : ℕ) (q : Refusal) → readNumber limit bytes at ≡ read.Refused q → P (q .no)
+    -- a number
+    pub read-refuses : (at : ℕ) (q : Refusal) → readNumber limit bytes at ≡ read.Refused q → P (q .no)
     read-refuses at q e = ⊎-elim (λ (h : q .no ≡ 11). rw h eleven) (λ (h : q .no ≡ 12). rw h twelve) (refusals limit bytes at q e)
 
     -- a row
@@ -118,13 +124,25 @@ module _ (P : ℕ → Type 0) where
     rows-refuses {tests} a (suc n) at r e = then-refuses (row tests limit bytes at) (λ k. rows n tests limit bytes k) (row-refuses a at) (rows-refuses a n) r e
 
   -- bytes that follow
-  pub whole-refuses : (bytes : List ℕ) (o : Outcome) → P 13 → Refuses P o → Refuses P (whole bytes o)
+  pub whole-refuses : {H : Type 0} (bytes : List ℕ) (header : H) (o : Outcome) → P 13 → Refuses P o → Unreads P (whole bytes header o)
   unfolding whole
-  whole-refuses bytes (refused q) p h = h
-  whole-refuses bytes (got vs next) p h = go (ltb next (length bytes))
+  whole-refuses bytes header (refused q) p h r e =
+      let t : q ≡ r = cc in
+      rw (← t) (h q refl)
+  whole-refuses bytes header (got vs next) p h r e = go (ltb next (length bytes)) r e
     where
-      go : (t : Bool) → Refuses P (if t then refusedWith 13 else got vs next)
-      go false r e = absurd (refused-got (sym e))
+      go : (t : Bool) → Unreads P (if t then unreadWith 13 else readAs header vs)
+      go false r e = absurd (unread-read (sym e))
       go true r e =
           let q : _≡_ {A = Refusal} (record { no = 13 }) r = cc in
           rw (← q) p
+
+  -- a refusal, and then a form
+  pub unless-refuses : {H : Type 0} (n : ℕ) (f : FormRead H) → ((n ≡ 0 → ⊥) → P n) → Unreads P f → Unreads P (unlessRefused n f)
+  unless-refuses n f p h = go (eqb n 0) refl
+    where
+      go : (t : Bool) → eqb n 0 ≡ t → Unreads P (if t then f else unreadWith n)
+      go true z r e = h r e
+      go false z r e =
+          let q : _≡_ {A = Refusal} (record { no = n }) r = cc in
+          rw (← q) (p (eqb-false n 0 z))

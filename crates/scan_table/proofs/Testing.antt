@@ -12,8 +12,9 @@ use borrow.Author.Tests.{eqb-true, eq-eqb, ne-eqb}
 use Rattle.choice.specs.Tests.{_unless_, refusal, _⨾_, ok}
 use Rattle.choice.proofs.Tests.{and-l, and-r, test-passed, rest-passed, no-refusal, rest-unrefused}
 use Rattle.sizes.specs.Sizes.{scansInRange}
-use Rattle.numbers.specs.Coding.{mostOf}
+use Rattle.numbers.specs.Coding.{mostOf, limitNo}
 use Rattle.numbers.specs.declared.Limit.the-variants.{Table}
+use Rattle.numbers.proofs.Puts.{stands}
 use Rattle.forms.specs.Forms.{Test, rowNo, rowsNo, asRead}
 use Rattle.scan_table.specs.declared.Scan.{Scan}
 use Rattle.scan_table.specs.Table.{fieldsOf, scanAt, scansIn, wholeTable, tableNo, testsOf}
@@ -26,11 +27,6 @@ pub scan-of : (fields : List ℕ) (i : ℕ) {t s d m : ℕ} → t ≡ getD field
 unfolding scanAt
 scan-of fields i e f g h = cc
 
--- a refusal stands, whatever comes after it
-pub stands : (n rest : ℕ) → (n ≡ 0 → ⊥) → (refusal n ⨾ rest) ≡ n
-stands zero rest h = absurd (h refl)
-stands (suc n) rest h = refl
-
 -- a refusal with none after it
 alone : (n : ℕ) → (refusal n ⨾ ok) ≡ n
 alone zero = refl
@@ -42,8 +38,8 @@ unfolding rowNo
 four-no t u v w a b c d = ap (λ (x : ℕ). refusal (t a) ⨾ refusal (u b) ⨾ refusal (v c) ⨾ x) (alone (w d))
 
 -- a number is tested as the reader would: by the coding's limit, and then by its own test
-pub as-read : (test : Test) (v : ℕ) → asRead Table test v ≡ (refusal (12 unless leb v (mostOf Table) ⨾ ok) ⨾ test v)
-unfolding asRead
+pub as-read : (test : Test) (v : ℕ) → asRead Table test v ≡ (refusal (limitNo Table v) ⨾ test v)
+unfolding asRead limitNo
 as-read test v = go (leb v (mostOf Table))
   where
     go : (t : Bool) → (12 unless t ⨾ test v) ≡ (refusal (12 unless t ⨾ ok) ⨾ test v)
@@ -51,7 +47,7 @@ as-read test v = go (leb v (mostOf Table))
     go false = refl
 
 -- the same, a step of the code at a time
-pub number-no : (test : Test) (v : ℕ) {k t n : ℕ} → k ≡ (12 unless leb v (mostOf Table) ⨾ ok) → t ≡ test v → n ≡ (refusal k ⨾ t) → n ≡ asRead Table test v
+pub number-no : (test : Test) (v : ℕ) {k t n : ℕ} → k ≡ limitNo Table v → t ≡ test v → n ≡ (refusal k ⨾ t) → n ≡ asRead Table test v
 number-no test v e f g = cc (as-read test v)
 
 -- the first refusal of four numbers, from the last one on

@@ -1,7 +1,7 @@
 -- What the reader does with one number after another: the contracts of its private steps.
 use mathlib.Core.List.{List}
 use Prim.Native.Nat.{ℕ}
-use lib.Dec.{eqb, ltb}
+use lib.Dec.{eqb}
 use Rattle.choice.specs.Choice.{if_then_else_}
 use Rattle.numbers.specs.Coding.{readNumber}
 use Rattle.numbers.specs.declared.Limit.the-variants.{Table}
@@ -9,8 +9,6 @@ use Rattle.numbers.specs.declared.Read.{Read}
 use Rattle.numbers.specs.declared.Read.the-variants as read
 use Rattle.forms.specs.declared.Place.{Place}
 use Rattle.forms.specs.declared.Place.the-variants as place
-use Rattle.scan_table.specs.declared.TableRead.{TableRead}
-use Rattle.scan_table.specs.declared.TableRead.the-variants as table
 
 -- the number at a place; a refusal that came before stays
 abbrev pub readFrom : List ℕ → Place → Read
@@ -25,8 +23,3 @@ valueOf (read.Refused r) = 0
 abbrev pub testedWith : Read → ℕ → Place
 testedWith (read.Number v next) n = if eqb n 0 then place.Next next else place.Refused (record { no = n })
 testedWith (read.Refused r) n = place.Refused r
-
--- the end of a table of so many scans
-abbrev pub endedAt : ℕ → Place → ℕ → TableRead
-endedAt end (place.Next next) scans = if ltb next end then table.Refused (record { no = 13 }) else table.Scans scans
-endedAt end (place.Refused r) scans = table.Refused r

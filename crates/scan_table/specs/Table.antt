@@ -2,17 +2,16 @@
 use mathlib.Core.Bool.{Bool, true, false, _&&_}
 use mathlib.Core.List.{List, [], _∷_, map}
 use Prim.Native.Nat.{ℕ, _+_, _-_, _*_, _/_, _%_, _^_}
-use lib.Dec.{eqb, ltb, leb}
-use lib.ListN.{length, drop, getD}
-use lib.Seq.{sets}
-use Rattle.choice.specs.Choice.{if_then_else_}
+use lib.Dec.{eqb, leb}
+use lib.ListN.{length, getD}
 use Rattle.choice.specs.Tests.{_unless_, _⨾_, ok}
 use Rattle.sizes.specs.Sizes.{between, scansInRange}
-use Rattle.numbers.specs.Coding.{refusedWrite, leaves}
+use Rattle.numbers.specs.Coding.{readNumber, putNo, putAnswer, afterPut}
 use Rattle.numbers.specs.declared.Limit.the-variants.{Table}
+use Rattle.numbers.specs.declared.Read.{Read}
+use Rattle.numbers.specs.declared.Read.the-variants as read
 use Rattle.numbers.specs.declared.Written.{Written}
-use Rattle.numbers.specs.declared.Written.the-variants as written
-use Rattle.forms.specs.Forms.{Outcome, got, refused, Test, prepend, row, rows, whole, forms, rowsNo, asRead}
+use Rattle.forms.specs.Forms.{Test, rows, FormRead, readAs, unread, unlessRefused, whole, forms, rowsNo, asRead}
 use Rattle.scan_table.specs.declared.Scan.{Scan}
 use Rattle.scan_table.specs.declared.TableRead.{TableRead}
 use Rattle.scan_table.specs.declared.TableRead.the-variants as table
@@ -73,32 +72,20 @@ tableNo tests fields =
 
 -- ---- reading
 
--- after S come S records
-unfoldable pub records : List ℕ → Outcome → Outcome
-records bytes (got s next) = prepend s (rows (getD s 0 0) scanTests Table bytes next)
-records bytes (refused r) = refused r
+-- S is tested at once; then per record tag, shelf, device, time, each range tested when read; then the end
+unfoldable pub afterSize : List ℕ → Read → FormRead ℕ
+afterSize bytes (read.Number s next) =
+    unlessRefused (sizeNo s) (whole bytes s (rows s scanTests Table bytes next))
+afterSize bytes (read.Refused r) = unread r
 
--- S, tested at once, then per record tag, shelf, device, time, each range tested when read, then the end
-unfoldable pub readTable : List ℕ → Outcome
-readTable bytes = whole bytes (records bytes (row (sizeNo ∷ []) Table bytes 0))
+-- what reading a table gives: S and the numbers of its records, or a refusal
+unfoldable pub readTable : List ℕ → FormRead ℕ
+readTable bytes = afterSize bytes (readNumber Table bytes 0)
 
--- what the form alone answers: S, or the refusal
-unfoldable pub checkAnswer : Outcome → TableRead
-checkAnswer (got vs next) = table.Scans (getD vs 0 0)
-checkAnswer (refused r) = table.Refused r
-
--- what reading into room answers: 8, after all else, where the room is smaller than the records
-unfoldable pub readAnswer : Outcome → List ℕ → TableRead
-readAnswer (got vs next) room =
-    if ltb (length room) (getD vs 0 0 * 4)
-    then table.Refused (record { no = 8 })
-    else table.Scans (getD vs 0 0)
-readAnswer (refused r) room = table.Refused r
-
--- a refusal leaves the room as it was; the numbers of the records fill its first places
-unfoldable pub afterRead : Outcome → List ℕ → List ℕ
-afterRead (got vs next) room = if ltb (length room) (getD vs 0 0 * 4) then room else sets room 0 (drop 1 vs)
-afterRead (refused r) room = room
+-- what it answers: S, or the refusal
+unfoldable pub tableAnswer : FormRead ℕ → TableRead
+tableAnswer (readAs scans fields) = table.Scans scans
+tableAnswer (unread r) = table.Refused r
 
 -- ---- writing
 
@@ -115,15 +102,15 @@ testsOf false = scanTests
 unfoldable pub tableForm : List ℕ → List ℕ
 tableForm fields = forms (scansIn fields ∷ fields)
 
--- what writing into a buffer answers
-unfoldable pub writeAnswer : List ℕ → List ℕ → Written
-writeAnswer fields buffer =
-    if eqb (tableNo writtenTests fields) 0
-    then (if ltb (length buffer) (length (tableForm fields)) then refusedWrite 8 else written.Next (length (tableForm fields)))
-    else refusedWrite (tableNo writtenTests fields)
+-- a table at the start of a buffer: the refusal, the answer, the buffer after it
+abbrev pub tableWrittenNo : List ℕ → List ℕ → ℕ
+tableWrittenNo fields buffer = putNo (tableNo writtenTests fields) (tableForm fields) buffer 0
 
-unfoldable pub afterWrite : List ℕ → List ℕ → List ℕ
-afterWrite fields buffer = leaves (writeAnswer fields buffer) (sets buffer 0 (tableForm fields)) buffer
+abbrev pub tableWritten : List ℕ → List ℕ → Written
+tableWritten fields buffer = putAnswer (tableNo writtenTests fields) (tableForm fields) buffer 0
+
+abbrev pub afterTable : List ℕ → List ℕ → List ℕ
+afterTable fields buffer = afterPut (tableNo writtenTests fields) (tableForm fields) buffer 0
 
 -- ---- an answer as numbers
 

@@ -2,14 +2,12 @@
 // In lent room a scan is four numbers in a row: tag, shelf, device, time.
 ghost use mathlib.Core.Path.{_≡_};
 ghost use Prim.Native.Nat.{_*_, _≤_};
-ghost use lib.Dec.{leb};
 ghost use lib.ListN.{length, getD};
-ghost use Rattle.choice.specs.Tests.{_unless_, refusal, _⨾_, ok};
-ghost use Rattle.numbers.specs.Coding.{mostOf};
+ghost use Rattle.numbers.specs.Coding.{limitNo, writtenNo};
 ghost use Rattle.numbers.specs.declared.Limit.the-variants.{Table};
-ghost use Rattle.forms.specs.Forms.{placeOf, row, rows, rowNo, rowsNo};
-ghost use Rattle.scan_table.specs.Table.{tagNo, shelfNo, deviceNo, timeNo, scanTests, writtenTests, testsOf, fieldsOf, scanAt, tableNo, readTable, checkAnswer, readAnswer, afterRead, writeAnswer, afterWrite};
-ghost use Rattle.scan_table.specs.Steps.{readFrom, valueOf, testedWith, endedAt};
+ghost use Rattle.forms.specs.Forms.{placeOf, row, rows, rowNo, rowsNo, formNo, roomNo, intoRoom, afterRoom};
+ghost use Rattle.scan_table.specs.Table.{tagNo, shelfNo, deviceNo, timeNo, scanTests, writtenTests, testsOf, fieldsOf, scanAt, tableNo, readTable, tableAnswer, tableWritten, afterTable, tableWrittenNo, tableReadNo};
+ghost use Rattle.scan_table.specs.Steps.{readFrom, valueOf, testedWith};
 use forms::Place;
 use numbers::Limit;
 use numbers::Read;
@@ -62,16 +60,9 @@ fn time_no(time: u64) -> u8
 
 // 12 where a number is too large for the coding.
 fn coding_no(value: u64) -> u8
-    ensures { λ r. ⌜ r ≡ (12 unless leb value (mostOf Table) ⨾ ok) ⌝ }
+    ensures { λ r. ⌜ r ≡ limitNo Table value ⌝ }
 {
     if Limit::Table.most() < value { 12 } else { 0 }
-}
-
-// The first of two refusals.
-fn first_no(a: u8, b: u8) -> u8
-    ensures { λ r. ⌜ r ≡ (refusal a ⨾ b) ⌝ }
-{
-    if a == 0 { b } else { a }
 }
 
 impl Scan {
@@ -98,11 +89,11 @@ impl Scan {
     fn written_no(self) -> u8
         ensures { λ r. ⌜ r ≡ rowNo writtenTests (fieldsOf self) ⌝ }
     {
-        let tag = first_no(coding_no(self.tag), tag_no(self.tag));
-        let shelf = first_no(coding_no(self.shelf), shelf_no(self.shelf));
-        let device = first_no(coding_no(self.device), device_no(self.device));
-        let time = first_no(coding_no(self.time), time_no(self.time));
-        first_no(tag, first_no(shelf, first_no(device, time)))
+        let tag = forms::first_no(coding_no(self.tag), tag_no(self.tag));
+        let shelf = forms::first_no(coding_no(self.shelf), shelf_no(self.shelf));
+        let device = forms::first_no(coding_no(self.device), device_no(self.device));
+        let time = forms::first_no(coding_no(self.time), time_no(self.time));
+        forms::first_no(tag, forms::first_no(shelf, forms::first_no(device, time)))
     }
 
     // The one or the other: `written` where the scan is to be written.
@@ -270,25 +261,9 @@ fn check_scans(bytes: &[u8], at: usize, scans: usize) -> Place
     Place::Next(next)
 }
 
-// The end of a table of so many scans: 13 where bytes follow.
-fn ended(length: usize, place: Place, scans: usize) -> TableRead
-    ensures { λ r. ⌜ r ≡ endedAt length place scans ⌝ }
-{
-    match place {
-        Place::Next(next) => {
-            if next < length {
-                TableRead::Refused(Refusal { no: 13 })
-            } else {
-                TableRead::Scans(scans)
-            }
-        }
-        Place::Refused(refusal) => TableRead::Refused(refusal),
-    }
-}
-
 // Whether the bytes are a scan table: how many scans it has, or the refusal.
 pub fn check_table(bytes: &[u8]) -> TableRead
-    ensures { λ r. ⌜ r ≡ checkAnswer (readTable (now (bytes .entry))) ⌝ }
+    ensures { λ r. ⌜ (r ≡ tableAnswer (readTable (now (bytes .entry)))) × (tableReadNo r ≡ formNo (readTable (now (bytes .entry)))) ⌝ }
 {
     let size = numbers::read_number(bytes, 0, Limit::Table);
     match size {
@@ -297,7 +272,11 @@ pub fn check_table(bytes: &[u8]) -> TableRead
                 return TableRead::Refused(Refusal { no: 1 });
             }
             let scans = value as usize;
-            ended(bytes.len(), check_scans(bytes, next, scans), scans)
+            let end = forms::ended(bytes.len(), check_scans(bytes, next, scans));
+            match end {
+                Place::Next(_) => TableRead::Scans(scans),
+                Place::Refused(refusal) => TableRead::Refused(refusal),
+            }
         }
         Read::Refused(refusal) => TableRead::Refused(refusal),
     }
@@ -305,7 +284,7 @@ pub fn check_table(bytes: &[u8]) -> TableRead
 
 // Reads a scan table into lent room, four numbers for each scan. A refusal leaves the room as it was; so do the places past the last scan.
 pub fn read_table(room: &mut [u64], bytes: &[u8]) -> TableRead
-    ensures { λ r. ⌜ (r ≡ readAnswer (readTable (now (bytes .entry))) (now (room .entry))) × (now (room .exit) ≡ afterRead (readTable (now (bytes .entry))) (now (room .entry))) ⌝ }
+    ensures { λ r. ⌜ (r ≡ tableAnswer (intoRoom (readTable (now (bytes .entry))) (now (room .entry)))) × (now (room .exit) ≡ afterRoom (readTable (now (bytes .entry))) (now (room .entry))) × (tableReadNo r ≡ roomNo (readTable (now (bytes .entry))) (now (room .entry))) ⌝ }
 {
     let checked = check_table(bytes);
     match checked {
@@ -330,7 +309,7 @@ pub fn read_table(room: &mut [u64], bytes: &[u8]) -> TableRead
 
 // Writes the table of whole scans, four numbers for each. A refusal leaves the buffer as it was; so do the bytes past the text.
 pub fn write_table(buffer: &mut [u8], fields: &[u64]) -> Written
-    ensures { λ r. ⌜ (r ≡ writeAnswer (now (fields .entry)) (now (buffer .entry))) × (now (buffer .exit) ≡ afterWrite (now (fields .entry)) (now (buffer .entry))) ⌝ }
+    ensures { λ r. ⌜ (r ≡ tableWritten (now (fields .entry)) (now (buffer .entry))) × (now (buffer .exit) ≡ afterTable (now (fields .entry)) (now (buffer .entry))) × (writtenNo r ≡ tableWrittenNo (now (fields .entry)) (now (buffer .entry))) ⌝ }
 {
     let no = table_no(fields, true);
     if no != 0 {

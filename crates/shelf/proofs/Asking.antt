@@ -1,28 +1,32 @@
 -- The steps of the shelf question: one scan more, a table's size, the tests of a question, and a table that was read into room. Assumes nothing.
 use mathlib.Core.Path.{_≡_, refl, sym, ap, _∙_}
-use mathlib.Core.Bool.{true, false}
+use mathlib.Core.Bool.{Bool, true, false}
 use mathlib.Core.List.{List}
 use mathlib.Core.Logic.{_⊎_, ⊎-elim}
 use Prim.Native.Nat.{ℕ, zero, suc, _+_, _-_, _*_, _^_, _<_, _≤_}
 use native.Mathlib.Omega.{arith}
 use native.Mathlib.Numerals.{add-one}
+use lib.Dec.{eqb}
 use lib.ListN.{length, drop, getD, List·getD-append}
 use lib.Seq.{sets, sets-eq}
-use borrow.Author.Tests.{lt-leb, le-leb, eq-eqb, ne-eqb}
+use borrow.Author.Tests.{lt-leb, le-leb, eqb-true, ne-eqb}
 use Rattle.choice.specs.Choice.{if_then_else_}
 use Rattle.sets.specs.Scans.{fits}
 use Rattle.sets.specs.declared.scans.Scans.{Scans}
 use Rattle.numbers.specs.declared.Refusal.{Refusal}
-use Rattle.forms.specs.Forms.{Outcome, got, refused}
+use Rattle.numbers.proofs.Puts.{stands}
+use Rattle.forms.specs.Forms.{FormRead, readAs, unread, intoRoom, afterRoom}
 use Rattle.scan_table.specs.declared.TableRead.the-variants as table
-use Rattle.scan_table.specs.Table.{tagNo, scanTests, scanAt, scansIn, tableNo, readTable, readAnswer, afterRead}
+use Rattle.scan_table.specs.Table.{tagNo, scanTests, scanAt, scansIn, tableNo, readTable, tableAnswer}
 use Rattle.sizes.proofs.SizeLaws.{scans-ranged}
 use Rattle.scan_table.proofs.Testing.{table-passes}
-use Rattle.scan_table.proofs.Tables.{table-got, checked-got}
-use Rattle.scan_table.proofs.TableLaws.{Narrow, table-count, read-refusals, read-scans}
+use Rattle.scan_table.proofs.Tables.{table-got, table-count}
+use Rattle.scan_table.proofs.TableLaws.{Narrow, read-refusals, read-scans}
 use Rattle.shelf.specs.declared.Newest.{Newest}
+use Rattle.shelf.specs.declared.Newest.the-variants.{Nothing, Found}
+use Rattle.shelf.specs.declared.Shelf.{Shelf}
 use Rattle.shelf.specs.declared.Shelf.the-variants as shelf
-use Rattle.shelf.specs.Shelf.{seenAt, isCandidate, better, newest, shown, refusedShelf, questionNo, ask, whereIs, whereIsWritten}
+use Rattle.shelf.specs.Shelf.{seenAt, isCandidate, better, newest, shown, refusedShelf, questionNo, answerOf, ask, whereIs, whereIsNo, whereIsWritten, whereIsWrittenNo, askedNo}
 
 -- ---- one scan more
 
@@ -79,47 +83,77 @@ table-most fields e = scans-ranged (scansIn fields) (table-passes scanTests fiel
 module _ (n : ℕ) (fields : List ℕ) (set : Scans) (tag : ℕ) where
   -- the tag is too large
   pub ask-tag : 2 ^ 32 - 1 < tag → ask n fields set tag ≡ refusedShelf 3
-  unfolding ask questionNo tagNo
+  unfolding ask answerOf questionNo tagNo
   ask-tag h = rw (lt-leb tag (2 ^ 32 - 1) h)
 
   -- the set holds a scan not below n
   pub ask-set : tag ≤ 2 ^ 32 - 1 → fits set n ≡ false → ask n fields set tag ≡ refusedShelf 3
-  unfolding ask questionNo tagNo
+  unfolding ask answerOf questionNo tagNo
   ask-set h e = rw (le-leb tag (2 ^ 32 - 1) h, e)
 
   -- the newest is shown
   pub ask-newest : tag ≤ 2 ^ 32 - 1 → fits set n ≡ true → ask n fields set tag ≡ shown (newest n fields set tag)
-  unfolding ask questionNo tagNo
+  unfolding ask answerOf questionNo tagNo
   ask-newest h e = rw (le-leb tag (2 ^ 32 - 1) h, e)
 
 module _ (fields : List ℕ) (set : Scans) (tag : ℕ) where
   -- the table is refused
   pub where-refused : (tableNo scanTests fields ≡ 0 → ⊥) → whereIs fields set tag ≡ refusedShelf (tableNo scanTests fields)
-  unfolding whereIs
-  where-refused h = rw (ne-eqb (tableNo scanTests fields) 0 h)
+  unfolding whereIs whereIsNo answerOf
+  where-refused h = rw (stands (tableNo scanTests fields) (questionNo (scansIn fields) set tag) h, ne-eqb (tableNo scanTests fields) 0 h)
 
   -- the question is asked
   pub where-asked : tableNo scanTests fields ≡ 0 → whereIs fields set tag ≡ ask (scansIn fields) fields set tag
-  unfolding whereIs
-  where-asked h = rw (eq-eqb (tableNo scanTests fields) 0 h)
+  unfolding whereIs whereIsNo ask
+  where-asked h = rw h
+
+-- ---- the number of an answer
+
+-- the newest, or none, is no refusal
+shown-number : (found : Newest) → askedNo (shown found) ≡ 0
+unfolding shown
+shown-number Nothing = refl
+shown-number (Found seen) = refl
+
+answer-number : (r n : ℕ) (fields : List ℕ) (set : Scans) (tag : ℕ) → askedNo (answerOf r n fields set tag) ≡ r
+unfolding answerOf
+answer-number r n fields set tag = go (eqb r 0) refl
+  where
+    go : (t : Bool) → eqb r 0 ≡ t → askedNo (if t then shown (newest n fields set tag) else refusedShelf r) ≡ r
+    go true e = shown-number (newest n fields set tag) ∙ sym (eqb-true r 0 e)
+    go false e = refl
+
+-- the question on a table has the number of its refusal
+pub where-number : (fields : List ℕ) (set : Scans) (tag : ℕ) → askedNo (whereIs fields set tag) ≡ whereIsNo fields set tag
+unfolding whereIs
+where-number fields set tag = answer-number (whereIsNo fields set tag) (scansIn fields) fields set tag
+
+-- and so has the question on the written form
+pub written-number : (o : FormRead ℕ) (set : Scans) (tag : ℕ) → askedNo (whereIsWritten o set tag) ≡ whereIsWrittenNo o set tag
+unfolding whereIsWritten whereIsWrittenNo ask
+written-number (readAs n fields) set tag = answer-number (questionNo n set tag) n fields set tag
+written-number (unread r) set tag = refl
+
+-- an answer of either question, with its number
+pub asked : (fields : List ℕ) (set : Scans) (tag : ℕ) {w : Shelf} → w ≡ whereIs fields set tag → (w ≡ whereIs fields set tag) × (askedNo w ≡ whereIsNo fields set tag)
+asked fields set tag e = (e, ap askedNo e ∙ where-number fields set tag)
+
+pub asked-written : (o : FormRead ℕ) (set : Scans) (tag : ℕ) {w : Shelf} → w ≡ whereIsWritten o set tag → (w ≡ whereIsWritten o set tag) × (askedNo w ≡ whereIsWrittenNo o set tag)
+asked-written o set tag e = (e, ap askedNo e ∙ written-number o set tag)
 
 -- ---- a table that was read into room
 
 -- a table that was read has at most 64 scans
-pub scans-most : (bytes : List ℕ) {vs : List ℕ} {next : ℕ} → readTable bytes ≡ got vs next → getD vs 0 0 ≤ 64
-scans-most bytes e =
-    let t = table-got bytes e in
-    rw (t .all) (scans-ranged (t .scans) (t .ranged) .1)
+pub scans-most : (bytes : List ℕ) {n : ℕ} {fields : List ℕ} → readTable bytes ≡ readAs n fields → n ≤ 64
+scans-most bytes {n} e = scans-ranged n (table-got bytes e .ranged) .1
 
 -- so it is with a table that was read into room
-pub written-most : (bytes room : List ℕ) {n : ℕ} → readAnswer (readTable bytes) room ≡ table.Scans n → n ≤ 64
-written-most bytes room {n} e =
-    let f = read-scans (readTable bytes) room n e in
-    rw (f .scans) (scans-most bytes (f .accepted))
+pub written-most : (bytes room : List ℕ) {n : ℕ} → tableAnswer (intoRoom (readTable bytes) room) ≡ table.Scans n → n ≤ 64
+written-most bytes room {n} e = scans-most bytes (read-scans bytes room n e .accepted)
 
 -- tables that agree have the same question
 pub ask-same : (n : ℕ) (a b : List ℕ) (set : Scans) (tag : ℕ) → Agree n a b → ask n a set tag ≡ ask n b set tag
-unfolding ask
+unfolding ask answerOf
 ask-same n a b set tag h = rw (newest-same n a b set tag h)
 
 -- numbers stored at the start of room that holds them stand there
@@ -128,21 +162,19 @@ stored-agree n room vs l f k h = rw (sets-eq vs room 0 (omega arith)) (List·get
 
 module _ (bytes room : List ℕ) (set : Scans) (tag : ℕ) where
   -- the table is read: the question on the room is the question on the table
-  pub written-asked : (n : ℕ) → readAnswer (readTable bytes) room ≡ table.Scans n → ask n (afterRead (readTable bytes) room) set tag ≡ whereIsWritten (readTable bytes) set tag
+  pub written-asked : (n : ℕ) → tableAnswer (intoRoom (readTable bytes) room) ≡ table.Scans n → ask n (afterRoom (readTable bytes) room) set tag ≡ whereIsWritten (readTable bytes) set tag
   unfolding whereIsWritten
   written-asked n e =
-      let f = read-scans (readTable bytes) room n e in
-      let a = stored-agree n room (drop 1 (f .vs)) (table-count bytes (f .accepted) ∙ ap (λ (k : ℕ). k * 4) (sym (f .scans))) (f .fits) in
-      let w : whereIsWritten (readTable bytes) set tag ≡ ask (getD (f .vs) 0 0) (drop 1 (f .vs)) set tag = ap (λ (o : Outcome). whereIsWritten o set tag) (f .accepted) in
-      rw (f .filled, w, ← f .scans) (ask-same n (sets room 0 (drop 1 (f .vs))) (drop 1 (f .vs)) set tag a)
+      let f = read-scans bytes room n e in
+      let a = stored-agree n room (f .fields) (table-count bytes (f .accepted)) (f .fits) in
+      let w : whereIsWritten (readTable bytes) set tag ≡ ask n (f .fields) set tag = ap (λ (o : FormRead ℕ). whereIsWritten o set tag) (f .accepted) in
+      rw (f .filled, w) (ask-same n (sets room 0 (f .fields)) (f .fields) set tag a)
 
   -- the table is refused: room of 256 numbers is enough for every table
-  pub written-refused : (r : Refusal) → 256 ≤ length room → readAnswer (readTable bytes) room ≡ table.Refused r → shelf.Refused r ≡ whereIsWritten (readTable bytes) set tag
+  pub written-refused : (r : Refusal) → 256 ≤ length room → tableAnswer (intoRoom (readTable bytes) room) ≡ table.Refused r → shelf.Refused r ≡ whereIsWritten (readTable bytes) set tag
   unfolding whereIsWritten
   written-refused r h e =
       ⊎-elim
-      (λ (q : readTable bytes ≡ refused r). rw q)
-      (λ (q : (r .no ≡ 8) × Narrow (readTable bytes) room).
-      let w = checked-got (readTable bytes) (q .1 .accepted) in
-      absurd (omega (arith, q .1 .short, w .scans, scans-most bytes (w .was))))
-      (read-refusals (readTable bytes) room r e)
+      (λ (q : readTable bytes ≡ unread r). rw q)
+      (λ (q : (r .no ≡ 8) × Narrow bytes room). absurd (omega (arith, q .1 .short, scans-most bytes (q .1 .accepted))))
+      (read-refusals bytes room r e)

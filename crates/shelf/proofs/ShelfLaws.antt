@@ -6,7 +6,6 @@ use mathlib.Core.Logic.{_⊎_, inl, inr, ⊎-elim, ⊎-map}
 use Prim.Native.Nat.{ℕ, zero, suc, _+_, _-_, _^_, _<_, _≤_}
 use native.Mathlib.Omega.{arith}
 use lib.Dec.{eqb, ltb, leb}
-use lib.ListN.{drop, getD}
 use borrow.Author.Tests.{leb-true, ltb-true, ltb-false, lt-ltb, le-ltb, eqb-true, eqb-false, eq-eqb}
 use Rattle.choice.specs.Choice.{if_then_else_}
 use Rattle.choice.specs.Tests.{_unless_, _⨾_, ok}
@@ -15,20 +14,20 @@ use Rattle.sets.specs.declared.ScanId.{ScanId}
 use Rattle.sets.specs.declared.scans.Scans.{Scans}
 use Rattle.sets.proofs.ScanLaws.{∈-⊆}
 use Rattle.numbers.specs.declared.Refusal.{Refusal}
-use Rattle.forms.specs.Forms.{Outcome, got, refused}
+use Rattle.forms.specs.Forms.{FormRead, readAs, unread}
 use Rattle.choice.proofs.Tests.{and-l, and-r, test-passed, no-refusal, rest-unrefused}
 use Rattle.scan_table.specs.declared.TableRead.the-variants as table
-use Rattle.scan_table.specs.Table.{tagNo, scanTests, scansIn, tableNo, readTable, checkAnswer}
+use Rattle.scan_table.specs.Table.{tagNo, scanTests, scansIn, tableNo, readTable, tableAnswer}
 use Rattle.scan_table.proofs.Refusals.{gives-one, gives-first}
 use Rattle.scan_table.proofs.Testing.{rows-pass}
-use Rattle.scan_table.proofs.Tables.{table-got}
-use Rattle.scan_table.proofs.TableLaws.{ReadRefusal, table-tested, scan-gives, table-gives, table-refusals}
+use Rattle.scan_table.proofs.Tables.{table-got, table-tested}
+use Rattle.scan_table.proofs.TableLaws.{ReadRefusal, scan-gives, table-gives, table-refusals}
 use Rattle.shelf.specs.declared.Seen.{Seen}
 use Rattle.shelf.specs.declared.Newest.{Newest}
 use Rattle.shelf.specs.declared.Newest.the-variants.{Nothing, Found}
 use Rattle.shelf.specs.declared.Shelf.{Shelf}
 use Rattle.shelf.specs.declared.Shelf.the-variants as answer
-use Rattle.shelf.specs.Shelf.{seenAt, comesBefore, isCandidate, better, newest, shown, refusedShelf, questionNo, ask, whereIs, whereIsWritten}
+use Rattle.shelf.specs.Shelf.{seenAt, comesBefore, isCandidate, better, newest, shown, refusedShelf, questionNo, answerOf, ask, whereIs, whereIsNo, whereIsWritten, askedNo}
 use Rattle.shelf.proofs.Asking.{ask-newest, where-asked}
 
 -- ---- the order
@@ -302,20 +301,8 @@ found-later n fields {a} {b} tag {s} h e = go (newest n fields b tag) refl
 
 -- ---- the answers
 
--- a refusal, or another answer where there is none
-abbrev orRefused : ℕ → Shelf → Shelf
-orRefused k w = if eqb k 0 then w else refusedShelf k
-
 refused-shown : {r : Refusal} {i : ScanId} {s t : ℕ} → answer.Refused r ≡ answer.Shown i s t → ⊥
 refused-shown e = let z : _≡_ {A = ℕ} 0 1 = cc in omega arith
-
--- a scan is shown only where there is no refusal
-shown-of : (k : ℕ) (w : Shelf) {i : ScanId} {s t : ℕ} → orRefused k w ≡ answer.Shown i s t → (k ≡ 0) × (w ≡ answer.Shown i s t)
-shown-of k w {i} {s} {t} e = go (eqb k 0) refl e
-  where
-    go : (b : Bool) → eqb k 0 ≡ b → (if b then w else refusedShelf k) ≡ answer.Shown i s t → (k ≡ 0) × (w ≡ answer.Shown i s t)
-    go true q h = (eqb-true k 0 q, h)
-    go false q h = absurd (refused-shown h)
 
 -- a question without a refusal: the tag is in range, and the set holds only scans below n
 question-zero : (n : ℕ) (set : Scans) (tag : ℕ) → questionNo n set tag ≡ 0 → (tag ≤ 2 ^ 32 - 1) × (fits set n ≡ true)
@@ -335,24 +322,40 @@ pub record Asked (n : ℕ) (fields : List ℕ) (set : Scans) (tag : ℕ) (i : Sc
   pub shelf : s ≡ seen .scan .shelf
   pub time : t ≡ seen .scan .time
 
+-- a scan is shown only where nothing refuses, and it is the newest
+pub record ShownBy (r n : ℕ) (fields : List ℕ) (set : Scans) (tag : ℕ) (i : ScanId) (s t : ℕ) : Type 0 where
+  pub passes : r ≡ 0
+  pub seen : Seen
+  pub found : newest n fields set tag ≡ Found seen
+  pub number : i ≡ seen .number
+  pub shelf : s ≡ seen .scan .shelf
+  pub time : t ≡ seen .scan .time
+
+answer-shown : (r n : ℕ) (fields : List ℕ) (set : Scans) (tag : ℕ) {i : ScanId} {s t : ℕ} → answerOf r n fields set tag ≡ answer.Shown i s t → ShownBy r n fields set tag i s t
+unfolding answerOf shown
+answer-shown r n fields set tag {i} {s} {t} e = go (eqb r 0) refl (newest n fields set tag) refl e
+  where
+    go : (b : Bool) → eqb r 0 ≡ b → (x : Newest) → newest n fields set tag ≡ x → (if b then shown x else refusedShelf r) ≡ answer.Shown i s t → ShownBy r n fields set tag i s t
+    go false z x q h = absurd (refused-shown h)
+    go true z Nothing q h = absurd (let z : _≡_ {A = ℕ} 0 1 = cc in omega arith)
+    go true z (Found seen) q h = record { passes = eqb-true r 0 z; seen = seen; found = q; number = cc; shelf = cc; time = cc }
+
 -- what the question says by a scan
 pub ask-shown : (n : ℕ) (fields : List ℕ) (set : Scans) (tag : ℕ) {i : ScanId} {s t : ℕ} → ask n fields set tag ≡ answer.Shown i s t → Asked n fields set tag i s t
-unfolding ask shown
-ask-shown n fields set tag {i} {s} {t} e =
-    let p = shown-of (questionNo n set tag) (shown (newest n fields set tag)) e in
-    go (question-zero n set tag (p .0)) (newest n fields set tag) refl (p .1)
-  where
-    go : (tag ≤ 2 ^ 32 - 1) × (fits set n ≡ true) → (x : Newest) → newest n fields set tag ≡ x → shown x ≡ answer.Shown i s t → Asked n fields set tag i s t
-    go z Nothing q h = absurd (let z : _≡_ {A = ℕ} 0 1 = cc in omega arith)
-    go z (Found seen) q h = record { tagged = z .0; fitting = z .1; seen = seen; found = q; number = cc; shelf = cc; time = cc }
+unfolding ask
+ask-shown n fields set tag e =
+    let p = answer-shown (questionNo n set tag) n fields set tag e in
+    let z = question-zero n set tag (p .passes) in
+    record { tagged = z .0; fitting = z .1; seen = p .seen; found = p .found; number = p .number; shelf = p .shelf; time = p .time }
 
 -- what the question on a table says by a scan: the table is not refused either
 pub where-shown : (fields : List ℕ) (set : Scans) (tag : ℕ) {i : ScanId} {s t : ℕ} → whereIs fields set tag ≡ answer.Shown i s t
     → (tableNo scanTests fields ≡ 0) × Asked (scansIn fields) fields set tag i s t
-unfolding whereIs
+unfolding whereIs whereIsNo
 where-shown fields set tag e =
-    let p = shown-of (tableNo scanTests fields) (ask (scansIn fields) fields set tag) e in
-    (p .0, ask-shown (scansIn fields) fields set tag (p .1))
+    let p = answer-shown (whereIsNo fields set tag) (scansIn fields) fields set tag e in
+    let z = no-refusal (tableNo scanTests fields) (questionNo (scansIn fields) set tag) (p .passes) in
+    (z, ask-shown (scansIn fields) fields set tag (sym (where-asked fields set tag z) ∙ e))
 
 -- an answer shows a scan that is not earlier than the time t
 pub record ShownLater (w : Shelf) (t : ℕ) : Type 0 where
@@ -384,38 +387,31 @@ where-later fields {a} {b} tag h f e =
     rw (where-asked fields b tag z) (ask-later (scansIn fields) fields tag h f (sym (where-asked fields a tag z) ∙ e))
 
 -- and with the question on the written form of a table of n scans
-pub written-later : (o : Outcome) (n : ℕ) {a b : Scans} (tag : ℕ) {i : ScanId} {s t : ℕ} → checkAnswer o ≡ table.Scans n → a ⊆ b → fits b n ≡ true → whereIsWritten o a tag ≡ answer.Shown i s t
+pub written-later : (o : FormRead ℕ) (n : ℕ) {a b : Scans} (tag : ℕ) {i : ScanId} {s t : ℕ} → tableAnswer o ≡ table.Scans n → a ⊆ b → fits b n ≡ true → whereIsWritten o a tag ≡ answer.Shown i s t
     → ShownLater (whereIsWritten o b tag) t
-unfolding whereIsWritten checkAnswer
-written-later (got vs next) n {a} {b} tag c h f e =
-    let z : n ≡ getD vs 0 0 = cc in
-    ask-later (getD vs 0 0) (drop 1 vs) tag h (rw (← z) f) e
-written-later (refused r) n tag c h f e = absurd (refused-shown e)
+unfolding whereIsWritten tableAnswer
+written-later (readAs m fields) n {a} {b} tag c h f e =
+    let z : n ≡ m = cc in
+    ask-later m fields tag h (rw (← z) f) e
+written-later (unread r) n tag c h f e = absurd (refused-shown e)
 
 -- ---- refusals
 
-module _ (P : ℕ → Type 0) where
-  -- the refusals of an answer, where those before it have P and so have its own
-  refused-of : (k : ℕ) (w : Shelf) → ((k ≡ 0 → ⊥) → P k) → ((r : Refusal) → w ≡ answer.Refused r → P (r .no)) → (r : Refusal) → orRefused k w ≡ answer.Refused r → P (r .no)
-  refused-of k w p q r e = go (eqb k 0) refl e
-    where
-      go : (b : Bool) → eqb k 0 ≡ b → (if b then w else refusedShelf k) ≡ answer.Refused r → P (r .no)
-      go true z h = q r h
-      go false z h =
-          let y : _≡_ {A = Refusal} (record { no = k }) r = cc in
-          rw (← y) (p (eqb-false k 0 z))
+-- a refusal of an answer is the one that refused it
+answer-refused : (k n : ℕ) (fields : List ℕ) (set : Scans) (tag : ℕ) (r : Refusal) → answerOf k n fields set tag ≡ answer.Refused r → (r .no ≡ k) × (k ≡ 0 → ⊥)
+unfolding answerOf shown
+answer-refused k n fields set tag r e = go (eqb k 0) refl (newest n fields set tag) e
+  where
+    go : (b : Bool) → eqb k 0 ≡ b → (x : Newest) → (if b then shown x else refusedShelf k) ≡ answer.Refused r → (r .no ≡ k) × (k ≡ 0 → ⊥)
+    go true z Nothing h = absurd (let z : _≡_ {A = ℕ} 0 1 = cc in omega arith)
+    go true z (Found seen) h = absurd (refused-shown (sym h))
+    go false z x h = (sym (ap askedNo h), eqb-false k 0 z)
 
-  -- the question refuses with 3
-  ask-refuses : (n : ℕ) (fields : List ℕ) (set : Scans) (tag : ℕ) → P 3 → (r : Refusal) → ask n fields set tag ≡ answer.Refused r → P (r .no)
-  unfolding ask questionNo tagNo shown
-  ask-refuses n fields set tag three =
-      let tagged = gives-one P 3 (leb tag (2 ^ 32 - 1)) three in
-      let fitting = gives-one P 3 (fits set n) three in
-      refused-of (questionNo n set tag) (shown (newest n fields set tag)) (gives-first P (tagNo tag) (3 unless fits set n ⨾ ok) tagged fitting) (go (newest n fields set tag))
-    where
-      go : (x : Newest) (r : Refusal) → shown x ≡ answer.Refused r → P (r .no)
-      go Nothing r e = absurd (let z : _≡_ {A = ℕ} 0 1 = cc in omega arith)
-      go (Found seen) r e = absurd (refused-shown (sym e))
+-- the question refuses with 3
+question-gives : (P : ℕ → Type 0) (n : ℕ) (set : Scans) (tag : ℕ) → P 3 → (questionNo n set tag ≡ 0 → ⊥) → P (questionNo n set tag)
+unfolding questionNo tagNo
+question-gives P n set tag three =
+    gives-first P (tagNo tag) (3 unless fits set n ⨾ ok) (gives-one P 3 (leb tag (2 ^ 32 - 1)) three) (gives-one P 3 (fits set n) three)
 
 -- what the question on a table refuses with: 1 for its size, 3 for a tag, a shelf or the set, 10 for a device, 12 for a time
 abbrev pub ShelfRefusal : ℕ → Type 0
@@ -424,39 +420,40 @@ ShelfRefusal n = (n ≡ 1) ⊎ (n ≡ 3) ⊎ (n ≡ 10) ⊎ (n ≡ 12)
 module _ (fields : List ℕ) (set : Scans) (tag : ℕ) where
   -- a question that is refused is refused so
   pub where-refusals : (r : Refusal) → whereIs fields set tag ≡ answer.Refused r → ShelfRefusal (r .no)
-  unfolding whereIs
-  where-refusals =
+  unfolding whereIs whereIsNo
+  where-refusals r e =
       let three = inr (inl refl) in
       let tests = scan-gives ShelfRefusal three (inr (inr (inl refl))) (inr (inr (inr refl))) in
-      refused-of ShelfRefusal (tableNo scanTests fields) (ask (scansIn fields) fields set tag) (table-gives ShelfRefusal (inl refl) tests fields) (ask-refuses ShelfRefusal (scansIn fields) fields set tag three)
+      let n = scansIn fields in
+      let p = answer-refused (whereIsNo fields set tag) n fields set tag r e in
+      rw (p .0) (gives-first ShelfRefusal (tableNo scanTests fields) (questionNo n set tag) (table-gives ShelfRefusal (inl refl) tests fields) (question-gives ShelfRefusal n set tag three) (p .1))
 
 module _ (bytes : List ℕ) (set : Scans) (tag : ℕ) where
   -- a question on the written form is refused so, or with 11 or 13: with what its reader refuses
   pub written-refusals : (r : Refusal) → whereIsWritten (readTable bytes) set tag ≡ answer.Refused r → ReadRefusal (r .no)
-  unfolding whereIsWritten
+  unfolding whereIsWritten ask
   written-refusals r e = go (readTable bytes) refl e
     where
-      go : (o : Outcome) → readTable bytes ≡ o → whereIsWritten o set tag ≡ answer.Refused r → ReadRefusal (r .no)
-      go (got vs next) q h = ask-refuses ReadRefusal (getD vs 0 0) (drop 1 vs) set tag (inr (inl refl)) r h
-      go (refused s) q h =
+      go : (o : FormRead ℕ) → readTable bytes ≡ o → whereIsWritten o set tag ≡ answer.Refused r → ReadRefusal (r .no)
+      go (readAs n fields) q h =
+          let p = answer-refused (questionNo n set tag) n fields set tag r h in
+          rw (p .0) (question-gives ReadRefusal n set tag (inr (inl refl)) (p .1))
+      go (unread s) q h =
           let p : s ≡ r = cc in
           rw (← p) (table-refusals bytes s q)
 
 -- ---- the two questions are one
 
 -- a table that was read is not refused
-read-passes : (bytes : List ℕ) {vs : List ℕ} {next : ℕ} → readTable bytes ≡ got vs next → (scansIn (drop 1 vs) ≡ getD vs 0 0) × (tableNo scanTests (drop 1 vs) ≡ 0)
-read-passes bytes {vs} e =
-    let fields = drop 1 vs in
-    let t = table-got bytes e in
+read-passes : (bytes : List ℕ) {n : ℕ} {fields : List ℕ} → readTable bytes ≡ readAs n fields → (scansIn fields ≡ n) × (tableNo scanTests fields ≡ 0)
+read-passes bytes {n} {fields} e =
     let p = table-tested bytes e in
     let l = p .0 in
-    let s : getD vs 0 0 ≡ t .scans = ap (λ (l : List ℕ). getD l 0 0) (t .all) in
-    (omega arith, rows-pass scanTests fields (getD vs 0 0) l (rw s (t .ranged)) (p .1))
+    (omega arith, rows-pass scanTests fields n l (table-got bytes e .ranged) (p .1))
 
 -- the question on the written form is the question on the table that was read
-pub written-read : (bytes : List ℕ) {vs : List ℕ} {next : ℕ} (set : Scans) (tag : ℕ) → readTable bytes ≡ got vs next → whereIsWritten (readTable bytes) set tag ≡ whereIs (drop 1 vs) set tag
+pub written-read : (bytes : List ℕ) {n : ℕ} {fields : List ℕ} (set : Scans) (tag : ℕ) → readTable bytes ≡ readAs n fields → whereIsWritten (readTable bytes) set tag ≡ whereIs fields set tag
 unfolding whereIsWritten
-written-read bytes {vs} set tag e =
+written-read bytes {fields = fields} set tag e =
     let p = read-passes bytes e in
-    rw (where-asked (drop 1 vs) set tag (p .1), e, p .0)
+    rw (where-asked fields set tag (p .1), e, p .0)

@@ -3,12 +3,11 @@ use mathlib.Core.Bool.{Bool, _&&_, _||_}
 use mathlib.Core.List.{List, [], _∷_}
 use Prim.Native.Nat.{ℕ, zero, suc}
 use lib.Dec.{eqb, ltb}
-use lib.ListN.{drop, getD}
 use Rattle.choice.specs.Choice.{if_then_else_}
 use Rattle.choice.specs.Tests.{_unless_, refusal, _⨾_, ok}
 use Rattle.sets.specs.Scans.{holds, fits}
 use Rattle.sets.specs.declared.scans.Scans.{Scans}
-use Rattle.forms.specs.Forms.{Outcome, got, refused}
+use Rattle.forms.specs.Forms.{FormRead, readAs, unread}
 use Rattle.scan_table.specs.Table.{tagNo, scanTests, scanAt, scansIn, tableNo}
 use Rattle.shelf.specs.declared.Seen.{Seen}
 use Rattle.shelf.specs.declared.Newest.{Newest}
@@ -58,24 +57,30 @@ unfoldable pub shown : Newest → Shelf
 shown Nothing = shelf.Nowhere
 shown (Found seen) = shelf.Shown (seen .number) (seen .scan .shelf) (seen .scan .time)
 
--- the question on a table of n scans
+-- the answer on a table of n scans, unless r refuses the question
+unfoldable pub answerOf : ℕ → ℕ → List ℕ → Scans → ℕ → Shelf
+answerOf r n fields set tag = if eqb r 0 then shown (newest n fields set tag) else refusedShelf r
+
 unfoldable pub ask : ℕ → List ℕ → Scans → ℕ → Shelf
-ask n fields set tag =
-    if eqb (questionNo n set tag) 0
-    then shown (newest n fields set tag)
-    else refusedShelf (questionNo n set tag)
+ask n fields set tag = answerOf (questionNo n set tag) n fields set tag
 
--- the question on a table that has been read: tested first is the table, in its reader's order
+-- on a table that has been read, tested first is the table, in its reader's order
+unfoldable pub whereIsNo : List ℕ → Scans → ℕ → ℕ
+whereIsNo fields set tag =
+    refusal (tableNo scanTests fields)
+    ⨾ questionNo (scansIn fields) set tag
+
 unfoldable pub whereIs : List ℕ → Scans → ℕ → Shelf
-whereIs fields set tag =
-    if eqb (tableNo scanTests fields) 0
-    then ask (scansIn fields) fields set tag
-    else refusedShelf (tableNo scanTests fields)
+whereIs fields set tag = answerOf (whereIsNo fields set tag) (scansIn fields) fields set tag
 
--- the question on the written form, by what reading it gave
-unfoldable pub whereIsWritten : Outcome → Scans → ℕ → Shelf
-whereIsWritten (got vs next) set tag = ask (getD vs 0 0) (drop 1 vs) set tag
-whereIsWritten (refused r) set tag = shelf.Refused r
+-- on the written form, by what reading it gave: its refusal, or the question's
+unfoldable pub whereIsWrittenNo : FormRead ℕ → Scans → ℕ → ℕ
+whereIsWrittenNo (readAs n fields) set tag = questionNo n set tag
+whereIsWrittenNo (unread r) set tag = r .no
+
+unfoldable pub whereIsWritten : FormRead ℕ → Scans → ℕ → Shelf
+whereIsWritten (readAs n fields) set tag = ask n fields set tag
+whereIsWritten (unread r) set tag = shelf.Refused r
 
 -- document 01's number of an answer: 0, or the refusal's
 abbrev pub askedNo : Shelf → ℕ

@@ -2,7 +2,7 @@
 ghost use mathlib.Core.Path.{_≡_};
 ghost use Rattle.choice.specs.Choice.{if_then_else_};
 ghost use Rattle.scan_table.specs.Table.{readTable};
-ghost use Rattle.shelf.specs.Shelf.{comesBefore, seenAt, isCandidate, better, newest, ask, whereIs, whereIsWritten};
+ghost use Rattle.shelf.specs.Shelf.{comesBefore, seenAt, isCandidate, better, newest, ask, whereIs, whereIsNo, whereIsWritten, whereIsWrittenNo, askedNo};
 use numbers::Refusal;
 use scan_table::Scan;
 use scan_table::TableRead;
@@ -122,7 +122,7 @@ fn ask_of(fields: &[u64], scans: u16, set: Scans, tag: u64) -> Shelf
 
 // Where the crate of a tag is, by a set of scans of a table that has been read.
 pub fn where_is(fields: &[u64], set: Scans, tag: u64) -> Shelf
-    ensures { λ r. ⌜ r ≡ whereIs (now (fields .entry)) set tag ⌝ }
+    ensures { λ r. ⌜ (r ≡ whereIs (now (fields .entry)) set tag) × (askedNo r ≡ whereIsNo (now (fields .entry)) set tag) ⌝ }
 {
     let no = scan_table::table_no(fields, false);
     if no != 0 {
@@ -133,7 +133,7 @@ pub fn where_is(fields: &[u64], set: Scans, tag: u64) -> Shelf
 
 // The same, of a table in its written form.
 pub fn where_is_written(bytes: &[u8], set: Scans, tag: u64) -> Shelf
-    ensures { λ r. ⌜ r ≡ whereIsWritten (readTable (now (bytes .entry))) set tag ⌝ }
+    ensures { λ r. ⌜ (r ≡ whereIsWritten (readTable (now (bytes .entry))) set tag) × (askedNo r ≡ whereIsWrittenNo (readTable (now (bytes .entry))) set tag) ⌝ }
 {
     let mut room = [0u64; MOST_NUMBERS];
     let answer = scan_table::read_table(&mut room, bytes);

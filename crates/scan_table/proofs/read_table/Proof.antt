@@ -1,11 +1,9 @@
 -- `scan_table::read_table` meets its contract: the whole form is checked, then the room, and then the numbers after the size are taken. Assumes nothing.
-use mathlib.Core.Path.{sym, ap, _∙_}
+use mathlib.Core.Path.{sym, _∙_}
 use Prim.Native.Nat.{ℕ}
 use native.Mathlib.Omega.{arith}
 use Rattle.numbers.proofs.CodingLaws.{Bytes}
-use Rattle.scan_table.specs.declared.TableRead.the-variants as table
-use Rattle.scan_table.specs.Table.{readTable}
-use Rattle.scan_table.proofs.Tables.{checked-got, checked-refused, form-refused, room-short, room-enough, table-taken}
+use Rattle.scan_table.proofs.Tables.{table-narrow, table-taken, table-unread}
 use borrow.Author.Needs.{needs}
 use Rattle.scan_table.proofs.read_table.Statement.{statement}
 use Rattle.scan_table.proofs.read_table.Tie as tie
@@ -19,9 +17,8 @@ enum-known-checked c = search needs
 returns : tie.Need-returns
 returns c =
     let a = c .before .before .before .before .before .before .before .args in
-    let k = checked-got (readTable (a .bytes .now)) (sym (c .before .before .before .before .check-table .ensures) ∙ c .before .before .checked .given .1) in
-    let w = room-short (a .room .now) (k .vs) (k .next) (omega (arith, k .scans)) in
-    rw (k .was) (w .answer, w .left)
+    let e = sym (c .before .before .before .before .check-table .ensures .0) ∙ c .before .before .checked .given .1 in
+    table-narrow (a .bytes .now) (a .room .now) (c .before .before .checked .given .0 .0) e (omega arith)
 
 width-requires : tie.Need-width-requires
 width-requires c κs = search needs
@@ -40,18 +37,17 @@ same-length c = search needs
 
 returns-2 : tie.Need-returns-2
 returns-2 c =
-    let a = c .before .before .before .before .before .before .before .before .before .before .before .before .args in
-    let k = checked-got (readTable (a .bytes .now)) (sym (c .before .before .before .before .before .before .before .before .before .check-table .ensures) ∙ c .before .before .before .before .before .before .before .checked .given .1) in
-    let b : Bytes (a .bytes .now) = λ (i : ℕ). omega (arith, c .before .before .before .before .before .before .before .before .before .before .shared-slice-known .given i) in
-    let w = room-enough (a .room .now) (k .vs) (k .next) (omega (arith, k .scans)) in
-    let l = table-taken (a .bytes .now) (a .room .now) b (k .was) (k .scans) (c .before .before .before .width .ensures) (c .before .before .take-numbers .ensures) in
-    rw (k .was) (ap table.Scans (k .scans) ∙ w .answer, l ∙ w .left)
+    let k = c .before .before .before .before .before .before .before in
+    let a = k .before .before .before .before .before .args in
+    let b : Bytes (a .bytes .now) = λ (i : ℕ). omega (arith, k .before .before .before .shared-slice-known .given i) in
+    let e = sym (k .before .before .check-table .ensures .0) ∙ k .checked .given .1 in
+    table-taken (a .bytes .now) (a .room .now) (k .checked .given .0 .0) b e (omega arith) (c .before .before .before .width .ensures) (c .before .before .take-numbers .ensures)
 
 returns-3 : tie.Need-returns-3
 returns-3 c =
     let a = c .before .before .before .before .before .before .args in
-    let w = form-refused (a .room .now) (c .before .checked2 .given .0 .0) in
-    rw (checked-refused (readTable (a .bytes .now)) (sym (c .before .before .before .check-table .ensures) ∙ c .before .checked2 .given .1)) (w .answer, w .left)
+    let e = sym (c .before .before .before .check-table .ensures .0) ∙ c .before .checked2 .given .1 in
+    table-unread (a .bytes .now) (a .room .now) (c .before .checked2 .given .0 .0) e
 
 pub read-table-spec : {M : Type 1} → statement M
 read-table-spec =

@@ -1,12 +1,14 @@
 -- `scan_table::write_table` meets its contract: the tests lead to the three answers of a writer of tables. Assumes nothing.
-use mathlib.Core.Path.{sym, ap, _∙_}
+use mathlib.Core.Path.{_≡_, sym, ap, _∙_}
 use native.Mathlib.Omega.{arith}
 use lib.ListN.{length}
 use Prim.Native.Nat.{_-_}
 use borrow.Author.Tests.{leb-true, leb-false, not-true, not-false}
-use Rattle.numbers.specs.Coding.{refusedWrite}
+use Rattle.numbers.specs.Coding.{refusedWrite, writtenNo}
 use Rattle.forms.specs.Forms.{forms}
-use Rattle.scan_table.proofs.Writing.{form-length, table-refused, no-room, wrote-both}
+use Rattle.numbers.proofs.Puts.{put-number}
+use Rattle.scan_table.specs.Table.{tableNo, writtenTests, tableForm, tableWritten}
+use Rattle.scan_table.proofs.Writing.{form-length, table-refused, table-short, wrote-both}
 use borrow.Author.Needs.{needs}
 use Rattle.scan_table.proofs.write_table.Statement.{statement}
 use Rattle.scan_table.proofs.write_table.Tie as tie
@@ -19,7 +21,7 @@ returns c =
     let a = c .before .before .before .before .args in
     let e = c .before .table-no .ensures in
     let w = table-refused (a .fields .now) (a .buffer .now) (rw e at (c .if1 .taken)) in
-    (ap refusedWrite e ∙ w .answer, w .buffer)
+    (ap refusedWrite e ∙ w .0, w .1, e ∙ w .2)
 
 width-requires : tie.Need-width-requires
 width-requires c κs = search needs
@@ -27,8 +29,7 @@ width-requires c κs = search needs
 returns-2 : tie.Need-returns-2
 returns-2 c =
     let a = c .before .before .before .before .before .before .args in
-    let w = no-room (a .fields .now) (a .buffer .now) (sym (c .before .before .before .table-no .ensures) ∙ c .before .before .if1 .left) (omega (arith, c .before .width .ensures, form-length (a .fields .now))) in
-    (w .answer, w .buffer)
+    table-short (a .fields .now) (a .buffer .now) (sym (c .before .before .before .table-no .ensures) ∙ c .before .before .if1 .left) (omega (arith, c .before .width .ensures, form-length (a .fields .now)))
 
 fit-in-requires : tie.Need-fit-in-requires
 fit-in-requires c κs = search needs
@@ -38,8 +39,7 @@ returns-3 c =
     let a = c .before .before .before .before .before .before .before .before .args in
     let n = c .before .before .before .width .result in
     let f = leb-false (length (forms (a .fields .now))) (length (a .buffer .now) - n) (sym (c .before .fit-in .ensures) ∙ not-true _ (c .if3 .taken)) in
-    let w = no-room (a .fields .now) (a .buffer .now) (sym (c .before .before .before .before .before .table-no .ensures) ∙ c .before .before .before .before .if1 .left) (omega (arith, c .before .before .before .width .ensures, form-length (a .fields .now))) in
-    (w .answer, w .buffer)
+    table-short (a .fields .now) (a .buffer .now) (sym (c .before .before .before .before .before .table-no .ensures) ∙ c .before .before .before .before .if1 .left) (omega (arith, c .before .before .before .width .ensures, form-length (a .fields .now)))
 
 write-number-requires : tie.Need-write-number-requires
 write-number-requires c κs = search needs
@@ -59,7 +59,8 @@ returns-4 c =
     let w = wrote-both (a .fields .now) (a .buffer .now) (sym (t .before .before .before .before .before .table-no .ensures) ∙ t .before .before .before .before .if1 .left) (omega (arith, n .ensures, form-length (a .fields .now))) in
     let one = c .before .before .before .before .before .before .write-number .ensures .1 in
     let two = c .before .before .write-numbers .ensures in
-    (two .0 ∙ rw (one, n .ensures) (w .answer), two .1 ∙ rw (one, n .ensures) (w .buffer))
+    let q : c .before .before .write-numbers .result ≡ tableWritten (a .fields .now) (a .buffer .now) = two .0 ∙ rw (one, n .ensures) (w .0) in
+    (q, two .1 ∙ rw (one, n .ensures) (w .1), ap writtenNo q ∙ put-number (tableNo writtenTests (a .fields .now)) (tableForm (a .fields .now)) (a .buffer .now) 0)
 
 pub write-table-spec : {M : Type 1} → statement M
 write-table-spec =

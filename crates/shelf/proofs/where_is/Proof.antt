@@ -3,7 +3,7 @@ use mathlib.Core.Path.{sym, ap, _∙_}
 use native.Mathlib.Omega.{arith}
 use borrow.Author.Needs.{needs}
 use Rattle.shelf.specs.Shelf.{refusedShelf}
-use Rattle.shelf.proofs.Asking.{table-most, where-refused, where-asked}
+use Rattle.shelf.proofs.Asking.{table-most, where-refused, where-asked, asked}
 use Rattle.shelf.proofs.where_is.Statement.{statement}
 use Rattle.shelf.proofs.where_is.Tie as tie
 
@@ -14,7 +14,7 @@ returns : tie.Need-returns
 returns c =
     let a = c .before .before .before .args in
     let e = c .before .table-no .ensures in
-    ap refusedShelf e ∙ sym (where-refused (a .fields .now) (a .set) (a .tag) (λ h. c .if1 .taken (e ∙ h)))
+    asked (a .fields .now) (a .set) (a .tag) (ap refusedShelf e ∙ sym (where-refused (a .fields .now) (a .set) (a .tag) (λ h. c .if1 .taken (e ∙ h))))
 
 cast-ask-of : tie.Need-cast-ask-of
 cast-ask-of c = omega (arith, table-most (c .before .before .before .args .fields .now) (sym (c .before .table-no .ensures) ∙ c .if1 .left))
@@ -25,7 +25,7 @@ ask-of-requires c κs = search needs
 returns-2 : tie.Need-returns-2
 returns-2 c =
     let a = c .before .before .before .before .args in
-    c .ask-of .ensures ∙ sym (where-asked (a .fields .now) (a .set) (a .tag) (sym (c .before .before .table-no .ensures) ∙ c .before .if1 .left))
+    asked (a .fields .now) (a .set) (a .tag) (c .ask-of .ensures ∙ sym (where-asked (a .fields .now) (a .set) (a .tag) (sym (c .before .before .table-no .ensures) ∙ c .before .if1 .left)))
 
 pub where-is-spec : {M : Type 1} → statement M
 where-is-spec =

@@ -4,8 +4,9 @@ use mathlib.Core.List.{List}
 use Prim.Native.Nat.{ℕ}
 use native.Mathlib.Omega.{arith}
 use borrow.Author.Needs.{needs}
+use Rattle.scan_table.specs.Table.{readTable}
 use Rattle.shelf.specs.Shelf.{ask}
-use Rattle.shelf.proofs.Asking.{written-most, written-asked, written-refused}
+use Rattle.shelf.proofs.Asking.{written-most, written-asked, written-refused, asked-written}
 use Rattle.shelf.proofs.where_is_written.Statement.{statement}
 use Rattle.shelf.proofs.where_is_written.Tie as tie
 
@@ -37,12 +38,14 @@ returns c =
     let p = c .before .before .before .before .before .before in
     let a = p .before .before .before .args in
     let e = sym (p .read-table .ensures .0) ∙ c .before .before .before .answer .given .1 in
-    c .ask-of .ensures ∙ ap (λ (room : List ℕ). ask (c .before .before .before .answer .given .0 .0) room (a .set) (a .tag)) (p .read-table .ensures .1) ∙ written-asked (a .bytes .now) _ (a .set) (a .tag) _ e
+    asked-written (readTable (a .bytes .now)) (a .set) (a .tag)
+    (c .ask-of .ensures ∙ ap (λ (room : List ℕ). ask (c .before .before .before .answer .given .0 .0) room (a .set) (a .tag)) (p .read-table .ensures .1) ∙ written-asked (a .bytes .now) _ (a .set) (a .tag) _ e)
 
 returns-2 : tie.Need-returns-2
 returns-2 c =
     let a = c .before .before .before .before .before .before .before .args in
-    written-refused (a .bytes .now) _ (a .set) (a .tag) _ (omega arith) (sym (c .before .before .before .before .read-table .ensures .0) ∙ c .before .answer2 .given .1)
+    asked-written (readTable (a .bytes .now)) (a .set) (a .tag)
+    (written-refused (a .bytes .now) _ (a .set) (a .tag) _ (omega arith) (sym (c .before .before .before .before .read-table .ensures .0) ∙ c .before .answer2 .given .1))
 
 pub where-is-written-spec : {M : Type 1} → statement M
 where-is-written-spec =

@@ -5,7 +5,7 @@ use Prim.Native.Nat.{ℕ}
 use Rattle.sizes.specs.declared.Sizes.{Sizes}
 use Rattle.sets.specs.Acceptors.{majority}
 use Rattle.numbers.specs.Coding.{groupsOf, mostOf, lastGroup, groupsFrom, readNumber}
-use Rattle.clock.specs.Clock.{age, clockRule}
+use Rattle.clock.specs.Clock.{age, clockRuleNo, clockRule}
 use Rattle.model.specs.declared.Event.{Event}
 use Rattle.model.specs.Records.{State, slotOf}
 use Rattle.model.specs.Step.{run, answers}
@@ -49,7 +49,7 @@ unfolding theStep settledAnswers
 no-room-hold = also (last-is _ _ _ _ refl) nothing
 
 scan-times-hold : Hold scanTimes
-unfolding age clockRule
+unfolding age clockRuleNo clockRule
 scan-times-hold = also refl (also refl nothing)
 
 coded-numbers-hold : Hold codedNumbers

@@ -10,7 +10,7 @@ use Rattle.sets.specs.Acceptors.{_among_, fitsRun, isMajority}
 use Rattle.sets.specs.declared.scans.Scans.{Scans}
 use Rattle.sets.specs.declared.acceptors.Acceptors.{Acceptors}
 use Rattle.sets.specs.declared.ScanId.{ScanId}
-use Rattle.scan_table.specs.Table.{readTable, checkAnswer}
+use Rattle.scan_table.specs.Table.{readTable, tableAnswer}
 use Rattle.scan_table.specs.declared.TableRead.the-variants as table-read
 use Rattle.shelf.specs.declared.Shelf.the-variants.{Shown}
 use Rattle.model.specs.Safety.{ShowsBy}
@@ -56,5 +56,5 @@ module _ {p a s : ℕ} (h : History p a s) where
     -- over one written scan table of s scans, a tag that ymd_where_is finds in the smaller set it finds in the larger, at a scan time no earlier
     pub foundLater : (i j : ℕ) (u v : List ℕ) → length u ≡ 8 → length v ≡ 8
         → Given (h .stores i) (setAt u 0) → Given (h .stores j) (setAt v 0) → setAt u 0 ⊆ setAt v 0
-        → (table : List ℕ) → checkAnswer (readTable table) ≡ table-read.Scans s → (tag : ℕ) (scan : ScanId) (place time : ℕ)
+        → (table : List ℕ) → tableAnswer (readTable table) ≡ table-read.Scans s → (tag : ℕ) (scan : ScanId) (place time : ℕ)
         → whereIsBytes table u tag ≡ Shown scan place time → ShowsBy time (whereIsBytes table v tag)

@@ -1,7 +1,7 @@
 // The number coding. A limit is 0 for schedules, any other number for scan tables. Each call gives 0 or the refusal's number.
 ghost use mathlib.Core.Path.{_≡_};
 ghost use lib.ListN.{length};
-ghost use Rattle.numbers.specs.Coding.{readNumber, form, writeAnswer, afterWrite, readNo, readValue, readNext, writtenNo, writtenNext};
+ghost use Rattle.numbers.specs.Coding.{readNumber, form, numberWrittenNo, numberWritten, afterNumber, readNo, readValue, readNext, writtenNext};
 ghost use Rattle.test_calls.specs.Words.{limitOf};
 use numbers::Limit;
 use numbers::Read;
@@ -53,7 +53,7 @@ pub extern "C" fn test_write_number(
     limit: u32,
     next: &mut usize,
 ) -> u8
-    ensures { λ r. ⌜ (r ≡ writtenNo (writeAnswer (limitOf limit) value (now (buffer .entry)) at)) × (now (buffer .exit) ≡ afterWrite (limitOf limit) value (now (buffer .entry)) at) × (now (next .exit) ≡ writtenNext (writeAnswer (limitOf limit) value (now (buffer .entry)) at) (now (next .entry))) ⌝ }
+    ensures { λ r. ⌜ (r ≡ numberWrittenNo (limitOf limit) value (now (buffer .entry)) at) × (now (buffer .exit) ≡ afterNumber (limitOf limit) value (now (buffer .entry)) at) × (now (next .exit) ≡ writtenNext (numberWritten (limitOf limit) value (now (buffer .entry)) at) (now (next .entry))) ⌝ }
 {
     let answer = numbers::write_number(buffer, at, value, limit_of(limit));
     match answer {

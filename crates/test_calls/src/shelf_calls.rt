@@ -2,7 +2,7 @@
 // Each call gives 0 or the refusal's number, and on a refusal the four keep what they held.
 ghost use mathlib.Core.Path.{_≡_};
 ghost use Rattle.scan_table.specs.Table.{readTable};
-ghost use Rattle.shelf.specs.Shelf.{whereIs, whereIsWritten, askedNo, shelfNumbers};
+ghost use Rattle.shelf.specs.Shelf.{whereIs, whereIsNo, whereIsWritten, whereIsWrittenNo, askedNo, shelfNumbers};
 ghost use Rattle.test_calls.specs.Words.{scansOf};
 use sets::scans::Scans;
 use shelf::Shelf;
@@ -26,7 +26,7 @@ fn told(answer: Shelf, numbers: &mut [u64; 4]) -> u8
 
 #[no_mangle]
 pub extern "C" fn test_where_is(fields: &[u64], set: u64, tag: u64, numbers: &mut [u64; 4]) -> u8
-    ensures { λ r. ⌜ (r ≡ askedNo (whereIs (now (fields .entry)) (scansOf set) tag)) × (now (numbers .exit) ≡ shelfNumbers (whereIs (now (fields .entry)) (scansOf set) tag) (now (numbers .entry))) ⌝ }
+    ensures { λ r. ⌜ (r ≡ whereIsNo (now (fields .entry)) (scansOf set) tag) × (now (numbers .exit) ≡ shelfNumbers (whereIs (now (fields .entry)) (scansOf set) tag) (now (numbers .entry))) ⌝ }
 {
     let answer = shelf::where_is(fields, Scans { bits: set }, tag);
     told(answer, numbers)
@@ -39,7 +39,7 @@ pub extern "C" fn test_where_is_written(
     tag: u64,
     numbers: &mut [u64; 4],
 ) -> u8
-    ensures { λ r. ⌜ (r ≡ askedNo (whereIsWritten (readTable (now (bytes .entry))) (scansOf set) tag)) × (now (numbers .exit) ≡ shelfNumbers (whereIsWritten (readTable (now (bytes .entry))) (scansOf set) tag) (now (numbers .entry))) ⌝ }
+    ensures { λ r. ⌜ (r ≡ whereIsWrittenNo (readTable (now (bytes .entry))) (scansOf set) tag) × (now (numbers .exit) ≡ shelfNumbers (whereIsWritten (readTable (now (bytes .entry))) (scansOf set) tag) (now (numbers .entry))) ⌝ }
 {
     let answer = shelf::where_is_written(bytes, Scans { bits: set }, tag);
     told(answer, numbers)

@@ -10,11 +10,11 @@ use lib.ListN.{length, getD}
 use borrow.Author.Tests.{eq-eqb}
 use Rattle.choice.specs.Choice.{if_then_else_}
 use Rattle.numbers.specs.declared.Refusal.{Refusal}
-use Rattle.forms.specs.Forms.{Outcome, got, refused}
+use Rattle.forms.specs.Forms.{FormRead, readAs, unread}
 use Rattle.sizes.specs.declared.Sizes.{Sizes}
 use Rattle.sets.specs.Scans.{_⊆_}
 use Rattle.sets.specs.declared.ScanId.{ScanId}
-use Rattle.scan_table.specs.Table.{readTable, checkAnswer}
+use Rattle.scan_table.specs.Table.{readTable, tableAnswer}
 use Rattle.scan_table.specs.declared.TableRead.the-variants as read
 use Rattle.scan_table.proofs.TableLaws.{ReadRefusal, table-refusals}
 use Rattle.shelf.specs.Shelf.{whereIsWritten, askedNo, shelfNumbers}
@@ -35,15 +35,15 @@ unasked-refuses : (table : List ℕ) {r : Refusal} → unasked (readTable table)
 unfolding unasked
 unasked-refuses table {r} e = go (readTable table) refl e
   where
-    go : (o : Outcome) → readTable table ≡ o → unasked o ≡ shelf.Refused r → ReadRefusal (r .no)
-    go (got vs next) q h = inr (inl (sym (ap askedNo h)))
-    go (refused s) q h = table-refusals table r (q ∙ ap refused (let p : s ≡ r = cc in p))
+    go : (o : FormRead ℕ) → readTable table ≡ o → unasked o ≡ shelf.Refused r → ReadRefusal (r .no)
+    go (readAs n fields) q h = inr (inl (sym (ap askedNo h)))
+    go (unread s) q h = table-refusals table r (q ∙ ap unread (let p : s ≡ r = cc in p))
 
 -- and so shows nothing
-unasked-shown : (o : Outcome) {scan : ScanId} {place time : ℕ} → unasked o ≡ shelf.Shown scan place time → ⊥
+unasked-shown : (o : FormRead ℕ) {scan : ScanId} {place time : ℕ} → unasked o ≡ shelf.Shown scan place time → ⊥
 unfolding unasked
-unasked-shown (got vs next) e = let z : _≡_ {A = ℕ} 0 1 = cc in omega arith
-unasked-shown (refused r) e = let z : _≡_ {A = ℕ} 0 1 = cc in omega arith
+unasked-shown (readAs n fields) e = let z : _≡_ {A = ℕ} 0 1 = cc in omega arith
+unasked-shown (unread r) e = let z : _≡_ {A = ℕ} 0 1 = cc in omega arith
 
 module _ (table set : List ℕ) (tag : ℕ) where
   -- the call refuses with a number that the table's reader gives, and 3 is one of them
@@ -77,7 +77,7 @@ not-zero (inr (inr (inr (inr (inr p))))) e = omega arith
 
 -- a table of the run's size, 8 bytes of a set that the run has learnt or decided, and bytes of any set within it
 module _ (z : Sizes) (es : List Event) (i : ℕ) (table small large : List ℕ) (tag : ℕ)
-    (size : checkAnswer (readTable table) ≡ read.Scans (z .scans)) (eight : length large ≡ 8) (given : Given (moment z es i) (setAt large 0)) (within : setAt small 0 ⊆ setAt large 0) where
+    (size : tableAnswer (readTable table) ≡ read.Scans (z .scans)) (eight : length large ≡ 8) (given : Given (moment z es i) (setAt large 0)) (within : setAt small 0 ⊆ setAt large 0) where
   -- where the smaller set shows a scan, so does the larger, at a time no earlier
   pub bytes-later : {scan : ScanId} {place time : ℕ} → whereIsBytes table small tag ≡ shelf.Shown scan place time → ShowsBy time (whereIsBytes table large tag)
   unfolding whereIsBytes

@@ -4,7 +4,7 @@ use Prim.Native.Nat.{ℕ}
 use lib.Dec.{eqb, ltb}
 use lib.ListN.{length}
 use Rattle.choice.specs.Choice.{if_then_else_}
-use Rattle.forms.specs.Forms.{Outcome, got, refused}
+use Rattle.forms.specs.Forms.{FormRead, readAs, unread}
 use Rattle.scan_table.specs.Table.{readTable}
 use Rattle.shelf.specs.Shelf.{whereIsWritten, refusedShelf}
 use Rattle.shelf.specs.declared.Shelf.{Shelf}
@@ -19,18 +19,12 @@ use Rattle.layouts.specs.Layout.{setAt, isSet, isAnswer, flagged, isAcceptor, a
 abbrev pub unlessRefused : ℕ → List ℕ → List ℕ → List ℕ
 unlessRefused n new old = if eqb n 0 then new else old
 
--- ---- the readers' verdict on bytes
-
-unfoldable pub verdict : Outcome → ℕ
-verdict (got vs next) = 0
-verdict (refused r) = r .no
-
 -- ---- the shelf question
 
 -- a set that is not 8 bytes is not within S: 3, after the table's own refusals
-unfoldable pub unasked : Outcome → Shelf
-unasked (got vs next) = refusedShelf 3
-unasked (refused r) = shelf.Refused r
+unfoldable pub unasked : FormRead ℕ → Shelf
+unasked (readAs n fields) = refusedShelf 3
+unasked (unread r) = shelf.Refused r
 
 unfoldable pub whereIsBytes : List ℕ → List ℕ → ℕ → Shelf
 whereIsBytes table set tag =

@@ -1,14 +1,14 @@
 // The readers' verdict on bytes: 0, or the reader's refusal.
 ghost use mathlib.Core.Path.{_≡_};
+ghost use Rattle.forms.specs.Forms.{formNo};
 ghost use Rattle.scan_table.specs.Table.{readTable};
 ghost use Rattle.schedule.specs.Schedule.{readSchedule};
-ghost use Rattle.yazhmandu.specs.Calls.{verdict};
 use scan_table::TableRead;
 use schedule::ScheduleRead;
 
 #[no_mangle]
 pub extern "C" fn ymd_check_schedule(bytes: &[u8]) -> u8
-    ensures { λ r. ⌜ r ≡ verdict (readSchedule (now (bytes .entry))) ⌝ }
+    ensures { λ r. ⌜ r ≡ formNo (readSchedule (now (bytes .entry))) ⌝ }
 {
     let checked = schedule::check_schedule(bytes);
     match checked {
@@ -19,7 +19,7 @@ pub extern "C" fn ymd_check_schedule(bytes: &[u8]) -> u8
 
 #[no_mangle]
 pub extern "C" fn ymd_check_table(bytes: &[u8]) -> u8
-    ensures { λ r. ⌜ r ≡ verdict (readTable (now (bytes .entry))) ⌝ }
+    ensures { λ r. ⌜ r ≡ formNo (readTable (now (bytes .entry))) ⌝ }
 {
     let checked = scan_table::check_table(bytes);
     match checked {

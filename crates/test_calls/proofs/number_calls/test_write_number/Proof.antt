@@ -1,5 +1,5 @@
 use mathlib.Core.Path.{sym, ap, _∙_}
-use Rattle.numbers.specs.Coding.{writeAnswer, afterWrite, writtenNo, writtenNext}
+use Rattle.numbers.specs.Coding.{numberWrittenNo, numberWritten, afterNumber, writtenNo, writtenNext}
 use Rattle.numbers.specs.declared.Limit.{Limit}
 use Rattle.numbers.specs.declared.Written.{Written}
 use borrow.Author.Needs.{needs}
@@ -26,8 +26,10 @@ returns c =
     let a = c .before .before .before .before .before .before .before .before .before .args in
     let l = c .before .before .before .before .before .before .limit-of .ensures in
     let w = c .before .before .before .before .before .write-number .ensures in
-    let e = sym (c .before .answer .given .1) ∙ w .0 ∙ ap (λ (x : Limit). writeAnswer x (a .value) (a .buffer .now) (a .at)) l in
-    (ap writtenNo e, w .1 ∙ ap (λ (x : Limit). afterWrite x (a .value) (a .buffer .now) (a .at)) l, ap (λ (x : Written). writtenNext x (a .next .now)) e)
+    let e = sym (c .before .answer .given .1) in
+    let n = w .2 ∙ ap (λ (x : Limit). numberWrittenNo x (a .value) (a .buffer .now) (a .at)) l in
+    let q = w .0 ∙ ap (λ (x : Limit). numberWritten x (a .value) (a .buffer .now) (a .at)) l in
+    (ap writtenNo e ∙ n, w .1 ∙ ap (λ (x : Limit). afterNumber x (a .value) (a .buffer .now) (a .at)) l, ap (λ (x : Written). writtenNext x (a .next .now)) (e ∙ q))
 
 same-length-2 : tie.Need-same-length-2
 same-length-2 c = search needs
@@ -37,8 +39,10 @@ returns-2 c =
     let a = c .before .before .before .before .before .before .before .before .before .args in
     let l = c .before .before .before .before .before .before .limit-of .ensures in
     let w = c .before .before .before .before .before .write-number .ensures in
-    let e = sym (c .before .answer2 .given .1) ∙ w .0 ∙ ap (λ (x : Limit). writeAnswer x (a .value) (a .buffer .now) (a .at)) l in
-    (ap writtenNo e, w .1 ∙ ap (λ (x : Limit). afterWrite x (a .value) (a .buffer .now) (a .at)) l, ap (λ (x : Written). writtenNext x (a .next .now)) e)
+    let e = sym (c .before .answer2 .given .1) in
+    let n = w .2 ∙ ap (λ (x : Limit). numberWrittenNo x (a .value) (a .buffer .now) (a .at)) l in
+    let q = w .0 ∙ ap (λ (x : Limit). numberWritten x (a .value) (a .buffer .now) (a .at)) l in
+    (ap writtenNo e ∙ n, w .1 ∙ ap (λ (x : Limit). afterNumber x (a .value) (a .buffer .now) (a .at)) l, ap (λ (x : Written). writtenNext x (a .next .now)) (e ∙ q))
 
 pub test-write-number-spec : {M : Type 1} → statement M
 test-write-number-spec =

@@ -21,8 +21,8 @@ returns : tie.Need-returns
 returns c =
     let a = c .before .before .before .before .before .before .before .before .before .args in
     let w = c .before .before .before .before .before .read-table .ensures in
-    let e = sym (c .before .answer .given .1) ∙ w .0 in
-    (ap tableReadNo e, w .1, ap (λ (x : TableRead). tableScans x (a .scans .now)) e)
+    let e = sym (c .before .answer .given .1) in
+    (ap tableReadNo e ∙ w .2, w .1, ap (λ (x : TableRead). tableScans x (a .scans .now)) (e ∙ w .0))
 
 same-length-2 : tie.Need-same-length-2
 same-length-2 c = search needs
@@ -31,8 +31,8 @@ returns-2 : tie.Need-returns-2
 returns-2 c =
     let a = c .before .before .before .before .before .before .before .before .before .args in
     let w = c .before .before .before .before .before .read-table .ensures in
-    let e = sym (c .before .answer2 .given .1) ∙ w .0 in
-    (ap tableReadNo e, w .1, ap (λ (x : TableRead). tableScans x (a .scans .now)) e)
+    let e = sym (c .before .answer2 .given .1) in
+    (ap tableReadNo e ∙ w .2, w .1, ap (λ (x : TableRead). tableScans x (a .scans .now)) (e ∙ w .0))
 
 pub test-read-table-spec : {M : Type 1} → statement M
 test-read-table-spec =

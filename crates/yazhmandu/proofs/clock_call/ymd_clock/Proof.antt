@@ -1,4 +1,5 @@
-use mathlib.Core.Path.{sym, _∙_}
+use mathlib.Core.Path.{sym, ap, _∙_}
+use Rattle.clock.specs.Clock.{clockNo}
 use borrow.Author.Needs.{needs}
 use Rattle.yazhmandu.proofs.clock_call.ymd_clock.Statement.{statement}
 use Rattle.yazhmandu.proofs.clock_call.ymd_clock.Tie as tie
@@ -14,13 +15,15 @@ enum-told c = search needs
 
 returns : tie.Need-returns
 returns c =
-    let e = sym (c .before .before .before .scan-time .ensures) ∙ c .before .answer .given .1 in
-    (simp e, simp e)
+    let s = c .before .before .before .scan-time .ensures in
+    let g = c .before .answer .given .1 in
+    (sym (ap clockNo g) ∙ s .1, simp (sym (s .0) ∙ g))
 
 returns-2 : tie.Need-returns-2
 returns-2 c =
-    let e = sym (c .before .before .scan-time .ensures) ∙ c .enum-told .given .1 in
-    (simp e, simp e)
+    let s = c .before .before .scan-time .ensures in
+    let g = c .enum-told .given .1 in
+    (sym (ap clockNo g) ∙ s .1, simp (sym (s .0) ∙ g))
 
 pub ymd-clock-spec : {M : Type 1} → statement M
 ymd-clock-spec =

@@ -1,7 +1,6 @@
-use mathlib.Core.Path.{sym, _∙_}
+use mathlib.Core.Path.{sym, ap, _∙_}
 use borrow.Author.Needs.{needs}
-use Rattle.schedule.specs.Schedule.{readSchedule}
-use Rattle.yazhmandu.proofs.Verdicts.{schedule-fine, schedule-refused}
+use Rattle.schedule.specs.Schedule.{scheduleReadNo}
 use Rattle.yazhmandu.proofs.form_calls.ymd_check_schedule.Statement.{statement}
 use Rattle.yazhmandu.proofs.form_calls.ymd_check_schedule.Tie as tie
 
@@ -15,10 +14,10 @@ enum-known-checked : tie.Need-enum-known-checked
 enum-known-checked c = search needs
 
 returns : tie.Need-returns
-returns c = schedule-fine (readSchedule (c .before .before .before .before .args .bytes .now)) _ (sym (c .before .before .check-schedule .ensures) ∙ c .enum-told .given .1)
+returns c = sym (ap scheduleReadNo (c .enum-told .given .1)) ∙ c .before .before .check-schedule .ensures .1
 
 returns-2 : tie.Need-returns-2
-returns-2 c = schedule-refused (readSchedule (c .before .before .before .before .before .args .bytes .now)) _ (sym (c .before .before .before .check-schedule .ensures) ∙ c .before .checked .given .1)
+returns-2 c = sym (ap scheduleReadNo (c .before .checked .given .1)) ∙ c .before .before .before .check-schedule .ensures .1
 
 pub ymd-check-schedule-spec : {M : Type 1} → statement M
 ymd-check-schedule-spec =

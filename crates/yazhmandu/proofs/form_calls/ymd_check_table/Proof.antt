@@ -1,7 +1,6 @@
-use mathlib.Core.Path.{sym, _∙_}
+use mathlib.Core.Path.{sym, ap, _∙_}
 use borrow.Author.Needs.{needs}
-use Rattle.scan_table.specs.Table.{readTable}
-use Rattle.yazhmandu.proofs.Verdicts.{table-fine, table-refused}
+use Rattle.scan_table.specs.Table.{tableReadNo}
 use Rattle.yazhmandu.proofs.form_calls.ymd_check_table.Statement.{statement}
 use Rattle.yazhmandu.proofs.form_calls.ymd_check_table.Tie as tie
 
@@ -15,10 +14,10 @@ enum-known-checked : tie.Need-enum-known-checked
 enum-known-checked c = search needs
 
 returns : tie.Need-returns
-returns c = table-fine (readTable (c .before .before .before .before .args .bytes .now)) _ (sym (c .before .before .check-table .ensures) ∙ c .enum-told .given .1)
+returns c = sym (ap tableReadNo (c .enum-told .given .1)) ∙ c .before .before .check-table .ensures .1
 
 returns-2 : tie.Need-returns-2
-returns-2 c = table-refused (readTable (c .before .before .before .before .before .args .bytes .now)) _ (sym (c .before .before .before .check-table .ensures) ∙ c .before .checked .given .1)
+returns-2 c = sym (ap tableReadNo (c .before .checked .given .1)) ∙ c .before .before .before .check-table .ensures .1
 
 pub ymd-check-table-spec : {M : Type 1} → statement M
 ymd-check-table-spec =

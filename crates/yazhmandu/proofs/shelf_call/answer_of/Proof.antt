@@ -3,7 +3,7 @@ use borrow.Author.Tests.{eq-eqb, ne-eqb}
 use borrow.Author.Needs.{needs}
 use Rattle.scan_table.specs.Table.{readTable}
 use Rattle.yazhmandu.specs.Calls.{whereIsBytes}
-use Rattle.yazhmandu.proofs.Verdicts.{unasked-table, unasked-refused}
+use Rattle.yazhmandu.proofs.Unasked.{unasked-table, unasked-refused}
 use Rattle.yazhmandu.proofs.shelf_call.answer_of.Statement.{statement}
 use Rattle.yazhmandu.proofs.shelf_call.answer_of.Tie as tie
 
@@ -15,7 +15,7 @@ where-is-written-requires c κs = search needs
 
 returns : tie.Need-returns
 unfolding whereIsBytes
-returns c = simp (eq-eqb _ _ (c .before .before .if1 .taken)) (simp (c .where-is-written .ensures, c .before .set-at .ensures))
+returns c = simp (eq-eqb _ _ (c .before .before .if1 .taken)) (simp (c .where-is-written .ensures .0, c .before .set-at .ensures))
 
 check-table-requires : tie.Need-check-table-requires
 check-table-requires c κs = search needs
@@ -31,14 +31,14 @@ unfolding whereIsBytes
 returns-2 c =
     let t₁ = c .before .before .before in
     let a = t₁ .before .before .before .args in
-    simp (ne-eqb _ _ (t₁ .if1 .left)) (sym (unasked-table (readTable (a .table .now)) _ (sym (c .before .before .check-table .ensures) ∙ c .enum-told .given .1)))
+    simp (ne-eqb _ _ (t₁ .if1 .left)) (sym (unasked-table (readTable (a .table .now)) _ (sym (c .before .before .check-table .ensures .0) ∙ c .enum-told .given .1)))
 
 returns-3 : tie.Need-returns-3
 unfolding whereIsBytes
 returns-3 c =
     let t₁ = c .before .before .before .before in
     let a = t₁ .before .before .before .args in
-    simp (ne-eqb _ _ (t₁ .if1 .left)) (sym (unasked-refused (readTable (a .table .now)) _ (sym (c .before .before .before .check-table .ensures) ∙ c .before .checked .given .1)))
+    simp (ne-eqb _ _ (t₁ .if1 .left)) (sym (unasked-refused (readTable (a .table .now)) _ (sym (c .before .before .before .check-table .ensures .0) ∙ c .before .checked .given .1)))
 
 pub answer-of-spec : {M : Type 1} → statement M
 answer-of-spec =

@@ -12,6 +12,7 @@ use lib.Seq.{sets, set-getD, getD-drop, drop-cons, drop-at, drop-drop, take-suc,
 use borrow.Author.Tests.{ltb-true, leb-true}
 use Rattle.choice.specs.Choice.{if_then_else_}
 use Rattle.sets.specs.Scans.{fits}
+use Rattle.sets.specs.Scans as scans
 use Rattle.sets.specs.declared.scans.Scans.{Scans}
 use Rattle.sizes.specs.Sizes.{sizesInRange}
 use Rattle.sizes.specs.declared.Sizes.{Sizes}
@@ -71,7 +72,7 @@ flag-same bytes at e = rw (flag-value (getD bytes at 0) (leb-true (getD bytes at
 
 -- a set of a run is a number of 8 bytes
 set-small : (z : Sizes) (v : Scans) → sizesInRange z ≡ true → fits v (z .scans) ≡ true → v .bits < 256 ^ 8
-unfolding fits
+unfolding fits scans.every scans.word scans.digitsBelow
 set-small z v e f =
     let s = bounds z e .few-scans in
     let p : 2 ^ z .scans ≤ 2 ^ 64 = pow-le-pow-right {n = 2} (omega arith) {i = z .scans} {j = 64} s in

@@ -7,7 +7,7 @@ use native.Mathlib.Nat.{min-eq-left, min-eq-right, pow-le-pow-right}
 use native.Mathlib.Omega.{arith}
 use borrow.Author.Tests.{lt-ltb, le-leb, lt-leb}
 use Rattle.sets.specs.Acceptors.{mostAcceptors}
-use Rattle.sets.specs.Scans.{mostScans, fits}
+use Rattle.sets.specs.Scans.{mostScans, word, every, digitsBelow, fits}
 use Rattle.sets.specs.declared.scans.Scans.{Scans}
 use Rattle.sizes.specs.Sizes.{between, scansInRange, sizesInRange}
 use Rattle.sizes.specs.declared.Sizes.{Sizes}
@@ -47,7 +47,7 @@ module _ (p a s : ℕ) where
 
 -- a set within m scans is within more
 pub fits-min : (v : Scans) (s m : ℕ) → v .bits < 2 ^ m → fits v (min s m) ≡ fits v s
-unfolding fits
+unfolding fits every word digitsBelow
 fits-min v s m h =
     ⊎-elim
     (λ (i : s ≤ m). ap (fits v) (min-eq-left i))

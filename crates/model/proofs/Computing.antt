@@ -4,7 +4,7 @@ use mathlib.Core.List.{List, [], _∷_}
 use lib.Count.{ones}
 use Rattle.sizes.specs.Sizes.{scansInRange, sizesInRange}
 use Rattle.sizes.specs.declared.Sizes.{Sizes}
-use Rattle.sets.specs.Scans.{mostScans, empty, only, _∪_, holds, within, strictlyWithin, isEmpty, fits}
+use Rattle.sets.specs.Scans.{mostScans, word, wordwise, every, wordOf, digitOf, digitsBelow, empty, only, _∪_, holds, within, strictlyWithin, isEmpty, fits}
 use Rattle.sets.specs.Acceptors.{mostAcceptors, none, includes, withOne, together, fitsRun, size, majority, isMajority}
 use Rattle.model.specs.declared.Event.{Event}
 use Rattle.model.specs.declared.Answer.{Answer}
@@ -18,7 +18,7 @@ use Rattle.model.specs.Step.{stepped, stepNo, step, run, answers}
 -- ---- `unfolding` one of these opens all that it names
 
 unfoldable pub theSets : Unit {0}
-unfolding ones scansInRange sizesInRange mostScans empty only _∪_ holds within strictlyWithin isEmpty fits mostAcceptors none includes withOne together fitsRun size majority isMajority
+unfolding ones scansInRange sizesInRange mostScans word wordwise every wordOf digitOf digitsBelow empty only _∪_ holds within strictlyWithin isEmpty fits mostAcceptors none includes withOne together fitsRun size majority isMajority
 theSets = tt
 
 unfoldable pub theStep : Unit {0}

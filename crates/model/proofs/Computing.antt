@@ -1,11 +1,9 @@
 -- Runs computed by the checker: what is opened for it, and a run that settles each state before it goes on.
 use mathlib.Core.Path.{_≡_, refl, sym, ap, _∙_}
 use mathlib.Core.List.{List, [], _∷_}
-use lib.Count.{ones}
 use Rattle.sizes.specs.Sizes.{scansInRange, sizesInRange}
 use Rattle.sizes.specs.declared.Sizes.{Sizes}
-use Rattle.sets.specs.Scans.{mostScans, word, wordwise, every, wordOf, digitOf, digitsBelow, empty, only, _∪_, holds, within, strictlyWithin, isEmpty, fits}
-use Rattle.sets.specs.Acceptors.{mostAcceptors, none, includes, withOne, together, fitsRun, size, majority, isMajority}
+use Rattle.sets.proofs.Computing.{openSets}
 use Rattle.model.specs.declared.Event.{Event}
 use Rattle.model.specs.declared.Answer.{Answer}
 use Rattle.model.specs.Records.{State, fresh}
@@ -18,8 +16,8 @@ use Rattle.model.specs.Step.{stepped, stepNo, step, run, answers}
 -- ---- `unfolding` one of these opens all that it names
 
 unfoldable pub theSets : Unit {0}
-unfolding ones scansInRange sizesInRange mostScans word wordwise every wordOf digitOf digitsBelow empty only _∪_ holds within strictlyWithin isEmpty fits mostAcceptors none includes withOne together fitsRun size majority isMajority
-theSets = tt
+unfolding openSets scansInRange sizesInRange
+theSets = openSets
 
 unfoldable pub theStep : Unit {0}
 unfolding theSets fresh buffering isCurrent acknowledging rejecting mayPropose proposeNo proposing mayRefine refineNo refining mayDecide decideNo deciding crashedProposer accepts accepting gaining crashedAcceptor hearing learns listening crashedLearner freeSlots place post from without delivery proposes crashed effect tests all proposerInRange acceptorInRange heardInRange learnerInRange fieldsInRange messageInRange lengthsInRange recordsInRange stepped stepNo step

@@ -4,8 +4,7 @@ use mathlib.Core.List.{List, [], _∷_}
 use Prim.Native.Nat.{ℕ}
 use lib.ListN.{drop}
 use Rattle.sizes.specs.Sizes.{scansInRange, sizesInRange}
-use Rattle.sets.specs.Scans.{mostScans}
-use Rattle.sets.specs.Acceptors.{mostAcceptors}
+use Rattle.sets.proofs.Computing.{openSets}
 use Rattle.numbers.specs.Coding.{groupsOf, mostOf, lastGroup, groupsFrom, readNumber}
 use Rattle.forms.specs.Forms.{got, testRead, prepend, andThen, row, whole}
 use Rattle.schedule.specs.Schedule.{headerOf, headerNo, events, readSchedule}
@@ -25,7 +24,7 @@ example =
     ∷ 0x02 ∷ 0x02 ∷ 0x00 ∷ 0x02 ∷ 0x01 ∷ 0x00 ∷ 0x07 ∷ 0x00 ∷ 0x00 ∷ []
 
 numbers-read : readSchedule example ≡ got example 27
-unfolding mostScans mostAcceptors scansInRange sizesInRange groupsOf mostOf lastGroup groupsFrom readNumber testRead prepend andThen row whole headerOf headerNo events readSchedule
+unfolding openSets scansInRange sizesInRange groupsOf mostOf lastGroup groupsFrom readNumber testRead prepend andThen row whole headerOf headerNo events readSchedule
 numbers-read = refl
 
 printed : textOfRead (got example 27)

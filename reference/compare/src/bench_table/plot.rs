@@ -17,23 +17,29 @@ const BAR: f64 = 20.0;
 const BARS_LEFT: f64 = 300.0;
 const BARS_RIGHT: f64 = 660.0;
 
-/// Colours that stand off from light and from dark ground.
+/// Plain colours, for viewers that know no variables, and others for a dark ground.
 const STYLE: &str = "\
 <style>
-:root { --ground: #ffffff; --ink: #1f2328; --faint: #d0d7de; --m0: #0969da; --m1: #1a7f37; --m2: #bc4c00; --bar: #0969da; }
-@media (prefers-color-scheme: dark) { :root { --ground: #0d1117; --ink: #e6edf3; --faint: #30363d; --m0: #58a6ff; --m1: #3fb950; --m2: #f0883e; --bar: #58a6ff; } }
-.ground { fill: var(--ground); }
-text { fill: var(--ink); font: 12px sans-serif; }
+.ground { fill: #ffffff; }
+text { fill: #1f2328; font: 12px sans-serif; }
 .title { font-weight: bold; font-size: 14px; }
 .end { text-anchor: end; }
 .middle { text-anchor: middle; }
-.grid { stroke: var(--faint); }
-.one { stroke: var(--ink); stroke-dasharray: 2 3; }
+.grid { stroke: #d0d7de; }
+.one { stroke: #1f2328; stroke-dasharray: 2 3; }
 .line { fill: none; stroke-width: 2; }
 .second { stroke-dasharray: 6 4; }
-.bar { fill: var(--bar); }
-.whisker { stroke: var(--ink); stroke-width: 2; }
-.m0 { stroke: var(--m0); } .m1 { stroke: var(--m1); } .m2 { stroke: var(--m2); }
+.bar { fill: #0969da; }
+.whisker { stroke: #1f2328; stroke-width: 2; }
+.m0 { stroke: #0969da; } .m1 { stroke: #1a7f37; } .m2 { stroke: #bc4c00; }
+@media (prefers-color-scheme: dark) {
+.ground { fill: #0d1117; }
+text { fill: #e6edf3; }
+.grid { stroke: #30363d; }
+.one, .whisker { stroke: #e6edf3; }
+.bar { fill: #58a6ff; }
+.m0 { stroke: #58a6ff; } .m1 { stroke: #3fb950; } .m2 { stroke: #f0883e; }
+}
 </style>
 ";
 

@@ -3,7 +3,8 @@ use mathlib.Core.Path.{_≡_, refl, ap, _∙_}
 use mathlib.Core.List.{List, _++_}
 use Prim.Native.Nat.{ℕ}
 use Rattle.sizes.specs.declared.Sizes.{Sizes}
-use Rattle.sets.specs.Acceptors.{majority}
+use Rattle.sets.specs.Scans.{firstWord}
+use Rattle.sets.proofs.Computing.{openSets}
 use Rattle.numbers.specs.Coding.{groupsOf, mostOf, lastGroup, groupsFrom, readNumber}
 use Rattle.clock.specs.Clock.{age, clockRuleNo, clockRule}
 use Rattle.model.specs.declared.Event.{Event}
@@ -16,8 +17,8 @@ use Rattle.starred.specs.Starred.{Answer, value, lastOf, Example, majori
 kind-is : (z : Sizes) (s : State) (es : List Event) (n : ℕ) → slotOf (settledRun z s es) 0 .kind ≡ n → value (slotOf (run z s es) 0 .kind) ≡ value n
 kind-is z s es n h = ap (λ (t : State). value (slotOf t 0 .kind)) (run-settled z s es) ∙ ap value h
 
-set-is : (z : Sizes) (s : State) (es : List Event) (n : ℕ) → slotOf (settledRun z s es) 0 .set .bits ≡ n → value (slotOf (run z s es) 0 .set .bits) ≡ value n
-set-is z s es n h = ap (λ (t : State). value (slotOf t 0 .set .bits)) (run-settled z s es) ∙ ap value h
+set-is : (z : Sizes) (s : State) (es : List Event) (n : ℕ) → firstWord (slotOf (settledRun z s es) 0 .set) ≡ n → value (firstWord (slotOf (run z s es) 0 .set)) ≡ value n
+set-is z s es n h = ap (λ (t : State). value (firstWord (slotOf t 0 .set))) (run-settled z s es) ∙ ap value h
 
 last-is : (z : Sizes) (s : State) (es : List Event) (w : Answer) → lastOf (settledAnswers z s es) ≡ w → lastOf (answers z s es) ≡ w
 last-is z s es w h = ap lastOf (answers-settled z s es) ∙ h
@@ -25,7 +26,7 @@ last-is z s es w h = ap lastOf (answers-settled z s es) ∙ h
 -- ---- each group, and all of them
 
 majorities-hold : Hold majorities
-unfolding majority
+unfolding openSets
 majorities-hold = also refl (also refl (also refl (also refl nothing)))
 
 acceptor-answers-hold : Hold acceptorAnswers

@@ -5,7 +5,7 @@ use mathlib.Core.List.{List, [], _∷_, _++_}
 use Prim.Native.Nat.{ℕ, _-_}
 use lib.ListN.{length, getD, replicate}
 use Rattle.sets.specs.Acceptors.{none, majority}
-use Rattle.sets.specs.Scans.{empty, only, _∪_}
+use Rattle.sets.specs.Scans.{empty, only, _∪_, firstWord}
 use Rattle.sets.specs.declared.scans.Scans.{Scans}
 use Rattle.sizes.specs.declared.Sizes.{Sizes}
 use Rattle.numbers.specs.Coding.{readNumber}
@@ -51,8 +51,8 @@ ofClock clock.Refused = refused (clockNo clock.Refused)
 -- ok without more: 0; a set learnt or decided: its number, scan 0 the lowest bit
 abbrev pub ofEvent : machine.Answer → Answer
 ofEvent Ok = value 0
-ofEvent (Learnt l v) = value (v .bits)
-ofEvent (Decided p v) = value (v .bits)
+ofEvent (Learnt l v) = value (firstWord v)
+ofEvent (Decided p v) = value (firstWord v)
 ofEvent (Refused n) = refused n
 
 abbrev pub lastOf : List machine.Answer → Answer
@@ -151,7 +151,7 @@ abbrev pub acceptorAnswers : List Example
 acceptorAnswers =
     (value (slotOf (run (sizesOf 1 1) (offered scan₀) (deliverSlot 0 ∷ [])) 0 .kind) is value 3)
     ∷ (value (slotOf (run (sizesOf 1 1) (offered scan₁) (deliverSlot 0 ∷ [])) 0 .kind) is value 4)
-    ∷ (value (slotOf (run (sizesOf 1 1) (offered scan₁) (deliverSlot 0 ∷ [])) 0 .set .bits) is value 0b11)
+    ∷ (value (firstWord (slotOf (run (sizesOf 1 1) (offered scan₁) (deliverSlot 0 ∷ [])) 0 .set)) is value 0b11)
     ∷ []
 
 -- A = 3, the same acknowledgement delivered twice: Decide refused 6

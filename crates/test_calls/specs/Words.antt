@@ -5,6 +5,7 @@ use Prim.Native.Nat.{ℕ}
 use lib.Dec.{eqb}
 use lib.ListN.{getD}
 use Rattle.choice.specs.Choice.{if_then_else_}
+use Rattle.sets.specs.Scans.{ofFirstWord}
 use Rattle.sets.specs.declared.scans.Scans.{Scans}
 use Rattle.sets.specs.declared.acceptors.Acceptors.{Acceptors}
 use Rattle.numbers.specs.declared.Limit.{Limit}
@@ -12,7 +13,7 @@ use Rattle.numbers.specs.declared.Limit.the-variants.{Schedule, Table}
 use Rattle.sizes.specs.declared.Sizes.{Sizes}
 
 abbrev pub scansOf : ℕ → Scans
-scansOf n = record { bits = n }
+scansOf n = ofFirstWord n
 
 abbrev pub acceptorsOf : ℕ → Acceptors
 acceptorsOf n = record { bits = n }

@@ -1,6 +1,6 @@
 // Sets as their words: a set of scans is a u64, a set of acceptors a u8; a test is 0 or 1.
 ghost use mathlib.Core.Path.{_≡_};
-ghost use Rattle.sets.specs.Scans.{only, _∪_, within, strictlyWithin, holds, isEmpty, fits};
+ghost use Rattle.sets.specs.Scans.{only, _∪_, within, strictlyWithin, holds, isEmpty, fits, firstWord};
 ghost use Rattle.sets.specs.Acceptors.{withOne, together, fitsRun, size, isMajority};
 ghost use Rattle.test_calls.specs.Words.{scansOf, acceptorsOf, bit};
 use sets::AcceptorId;
@@ -16,51 +16,52 @@ fn number_of(answer: bool) -> u32
 
 #[no_mangle]
 pub extern "C" fn test_scans_of_one(scan: u16) -> u64
-    ensures { λ r. ⌜ r ≡ only scan .bits ⌝ }
+    ensures { λ r. ⌜ r ≡ firstWord (only scan) ⌝ }
 {
-    Scans::of_one(ScanId(scan)).bits
+    Scans::of_one(ScanId(scan)).first_word()
 }
 
 #[no_mangle]
 pub extern "C" fn test_scans_union(a: u64, b: u64) -> u64
-    ensures { λ r. ⌜ r ≡ (scansOf a ∪ scansOf b) .bits ⌝ }
+    ensures { λ r. ⌜ r ≡ firstWord (scansOf a ∪ scansOf b) ⌝ }
 {
-    Scans { bits: a }.union(Scans { bits: b }).bits
+    let both = Scans::of_first_word(a).union(Scans::of_first_word(b));
+    both.first_word()
 }
 
 #[no_mangle]
 pub extern "C" fn test_scans_contained(a: u64, b: u64) -> u32
     ensures { λ r. ⌜ r ≡ bit (within (scansOf a) (scansOf b)) ⌝ }
 {
-    number_of(Scans { bits: a }.is_contained_in(Scans { bits: b }))
+    number_of(Scans::of_first_word(a).is_contained_in(Scans::of_first_word(b)))
 }
 
 #[no_mangle]
 pub extern "C" fn test_scans_strictly_contained(a: u64, b: u64) -> u32
     ensures { λ r. ⌜ r ≡ bit (strictlyWithin (scansOf a) (scansOf b)) ⌝ }
 {
-    number_of(Scans { bits: a }.is_strictly_contained_in(Scans { bits: b }))
+    number_of(Scans::of_first_word(a).is_strictly_contained_in(Scans::of_first_word(b)))
 }
 
 #[no_mangle]
 pub extern "C" fn test_scans_holds(a: u64, scan: u16) -> u32
     ensures { λ r. ⌜ r ≡ bit (holds (scansOf a) scan) ⌝ }
 {
-    number_of(Scans { bits: a }.holds(ScanId(scan)))
+    number_of(Scans::of_first_word(a).holds(ScanId(scan)))
 }
 
 #[no_mangle]
 pub extern "C" fn test_scans_is_empty(a: u64) -> u32
     ensures { λ r. ⌜ r ≡ bit (isEmpty (scansOf a)) ⌝ }
 {
-    number_of(Scans { bits: a }.is_empty())
+    number_of(Scans::of_first_word(a).is_empty())
 }
 
 #[no_mangle]
 pub extern "C" fn test_scans_fits(a: u64, scans: u32) -> u32
     ensures { λ r. ⌜ r ≡ bit (fits (scansOf a) scans) ⌝ }
 {
-    number_of(Scans { bits: a }.fits(scans))
+    number_of(Scans::of_first_word(a).fits(scans))
 }
 
 #[no_mangle]

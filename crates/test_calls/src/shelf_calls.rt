@@ -28,7 +28,7 @@ fn told(answer: Shelf, numbers: &mut [u64; 4]) -> u8
 pub extern "C" fn test_where_is(fields: &[u64], set: u64, tag: u64, numbers: &mut [u64; 4]) -> u8
     ensures { λ r. ⌜ (r ≡ whereIsNo (now (fields .entry)) (scansOf set) tag) × (now (numbers .exit) ≡ shelfNumbers (whereIs (now (fields .entry)) (scansOf set) tag) (now (numbers .entry))) ⌝ }
 {
-    let answer = shelf::where_is(fields, Scans { bits: set }, tag);
+    let answer = shelf::where_is(fields, Scans::of_first_word(set), tag);
     told(answer, numbers)
 }
 
@@ -41,6 +41,6 @@ pub extern "C" fn test_where_is_written(
 ) -> u8
     ensures { λ r. ⌜ (r ≡ whereIsWrittenNo (readTable (now (bytes .entry))) (scansOf set) tag) × (now (numbers .exit) ≡ shelfNumbers (whereIsWritten (readTable (now (bytes .entry))) (scansOf set) tag) (now (numbers .entry))) ⌝ }
 {
-    let answer = shelf::where_is_written(bytes, Scans { bits: set }, tag);
+    let answer = shelf::where_is_written(bytes, Scans::of_first_word(set), tag);
     told(answer, numbers)
 }

@@ -1,8 +1,12 @@
-use mathlib.Core.Path.{ap, _∙_}
-use Rattle.test_calls.specs.Words.{bit}
 use borrow.Author.Needs.{needs}
 use Rattle.test_calls.proofs.set_calls.test_scans_strictly_contained.Statement.{statement}
 use Rattle.test_calls.proofs.set_calls.test_scans_strictly_contained.Tie as tie
+
+of-first-word-requires : tie.Need-of-first-word-requires
+of-first-word-requires c κs = search needs
+
+of-first-word-requires-2 : tie.Need-of-first-word-requires-2
+of-first-word-requires-2 c κs = search needs
 
 is-strictly-contained-in-requires : tie.Need-is-strictly-contained-in-requires
 is-strictly-contained-in-requires c κs = search needs
@@ -11,8 +15,8 @@ number-of-requires : tie.Need-number-of-requires
 number-of-requires c κs = search needs
 
 returns : tie.Need-returns
-returns c = c .number-of .ensures ∙ ap bit (c .before .is-strictly-contained-in .ensures)
+returns c = simp (c .number-of .ensures, c .before .is-strictly-contained-in .ensures, c .before .before .of-first-word2 .ensures, c .before .before .before .of-first-word .ensures)
 
 pub test-scans-strictly-contained-spec : {M : Type 1} → statement M
 test-scans-strictly-contained-spec =
-    tie.close (tie.spec is-strictly-contained-in-requires number-of-requires returns)
+    tie.close (tie.spec of-first-word-requires of-first-word-requires-2 is-strictly-contained-in-requires number-of-requires returns)

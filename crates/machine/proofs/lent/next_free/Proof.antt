@@ -27,7 +27,7 @@ use denote.RattleType.{owns}
 use denote.Laws.{Is, Makes, shows}
 use denote.Plain.{uint-vals, uint-tells, uint-makes, bool-tells}
 use denote.Builtin.{usize, bool}
-use denote.Memory.{pointee, shares}
+use denote.Memory.{mem, pointee, shares}
 use denote.Ref.{RefT}
 use denote.Slice.{sliceTy, sliceVal, ShrSlice, heres, codedHoleys, Room, slice-vals, shr-slice-tells, at-slice}
 use denote.Index.{place-is, elem-out, elem-back, looks-slice, shuts-slice}
@@ -58,6 +58,10 @@ use Rattle.machine.proofs.lent.next_free as this
 use Rattle.machine.proofs.lent.next_free.Statement as stated
 use Rattle.machine.proofs.lent.next_free.Code as code
 use Rattle.machine.proofs.lent.next_free.Code.Mir as pieces
+
+-- how many bytes a slot takes
+abbrev slotSize : ℕ
+slotSize = mem Ms.the-row .size
 
 abbrev valsMs : Message → List Val
 valsMs = LL.vals Ms.the-type Ms′.the-laws
@@ -156,9 +160,9 @@ module _ {M : Type 1} (𝓤 : URA M) (H : Heap 𝓤) (A : Atoms 𝓤) (W : Given
         tests ! (reads ! (from ! (stop !)) (look ! 8 refl))
         (λ on.
         assigns ! (bin ! (reads ! (from ! (stop !)) (look ! 18 refl)) (lit ! tt) (record { fits = below (i + 1) n (le-of-lt (inner on)) (room .0) })) (from ! (stop !)) (store ! 18 refl (tt, record { fits = below (i + 1) n (le-of-lt (inner on)) (room .0) })) $
-        assigns ! (bin ! (reads ! (from ! (stop !)) (look ! 18 refl)) (lit ! tt) (record { fits = fits-place 16 (i + 1) n (inner on) (room .1) })) (from ! (stop !)) (init ! 6 refl (tt, record { fits = fits-place 16 (i + 1) n (inner on) (room .1) })) $
+        assigns ! (bin ! (reads ! (from ! (stop !)) (look ! 18 refl)) (lit ! tt) (record { fits = fits-place slotSize (i + 1) n (inner on) (room .1) })) (from ! (stop !)) (init ! 6 refl (tt, record { fits = fits-place slotSize (i + 1) n (inner on) (room .1) })) $
         assigns ! (bin ! (reads ! (from ! (fld ! refl (stop !))) (look-in ! 22 (sub ! 0 refl (whole !)))) (reads ! (from ! (stop !)) (look ! 6 refl)) tt) (from ! (stop !)) (init ! 4 refl (tt, tt)) $
-        rewrite ! 4 (λ (z : ℕ). ‵ (fat fullShare tyPtr l₁₀ 0 (vptr b z))) (sym (place-is 16 o (i + 1))) refl $
+        rewrite ! 4 (λ (z : ℕ). ‵ (fat fullShare tyPtr l₁₀ 0 (vptr b z))) (sym (place-is slotSize o (i + 1))) refl $
         move ! (1 ∷ 0 ∷ []) $
         looks-slice ! tt Ms.the-row (Is Ms.the-row) (shows 𝓤 H A Ms.the-row) valsMs (LL.tells Ms.the-type Ms′.the-laws) (LL.copy Ms.the-type Ms′.the-copy 𝓤 H A W) ys b o (λ q′.
         elem-out ! Ms.the-row (Is Ms.the-row) (shows 𝓤 H A Ms.the-row) valsMs (LL.tells Ms.the-type Ms′.the-laws) q′ ys (i + 1) freeSlot b o (inner on) (λ g.
@@ -197,9 +201,9 @@ module _ {M : Type 1} (𝓤 : URA M) (H : Heap 𝓤) (A : Atoms 𝓤) (W : Given
       assigns ! (of-opd ! (reads ! (from ! (stop !)) (look ! 18 refl))) (from ! (stop !)) (init ! 16 refl (tt, record { fits = gf })) $
       move ! (25 ∷ []) $ fsplit ! $ fsplit ! $ move ! (1 ∷ []) $ fsplit ! $ move ! (28 ∷ []) $ split ! $
       keep ! (0 ∷ 3 ∷ 6 ∷ 7 ∷ 8 ∷ 9 ∷ 10 ∷ 11 ∷ 12 ∷ 13 ∷ 14 ∷ 15 ∷ 16 ∷ 17 ∷ 18 ∷ 19 ∷ 20 ∷ 21 ∷ 22 ∷ 23 ∷ 24 ∷ 25 ∷ 26 ∷ 27 ∷ 28 ∷ 29 ∷ 2 ∷ 4 ∷ []) $
-      assigns ! (bin ! (reads ! (from ! (stop !)) (look ! 18 refl)) (lit ! tt) (record { fits = fits-place 16 f n inside (room .1) })) (from ! (stop !)) (init ! 14 refl (tt, record { fits = fits-place 16 f n inside (room .1) })) $
+      assigns ! (bin ! (reads ! (from ! (stop !)) (look ! 18 refl)) (lit ! tt) (record { fits = fits-place slotSize f n inside (room .1) })) (from ! (stop !)) (init ! 14 refl (tt, record { fits = fits-place slotSize f n inside (room .1) })) $
       assigns ! (bin ! (reads ! (from ! (fld ! refl (stop !))) (look-in ! 22 (sub ! 0 refl (whole !)))) (reads ! (from ! (stop !)) (look ! 14 refl)) tt) (from ! (stop !)) (init ! 12 refl (tt, tt)) $
-      rewrite ! 12 (λ (z : ℕ). ‵ (fat fullShare tyPtr l₆ 0 (vptr b z))) (sym (place-is 16 o f)) refl $
+      rewrite ! 12 (λ (z : ℕ). ‵ (fat fullShare tyPtr l₆ 0 (vptr b z))) (sym (place-is slotSize o f)) refl $
       move ! (1 ∷ 0 ∷ []) $
       looks-slice ! tt Ms.the-row (Is Ms.the-row) (shows 𝓤 H A Ms.the-row) valsMs (LL.tells Ms.the-type Ms′.the-laws) (LL.copy Ms.the-type Ms′.the-copy 𝓤 H A W) ys b o (λ q′.
       elem-out ! Ms.the-row (Is Ms.the-row) (shows 𝓤 H A Ms.the-row) valsMs (LL.tells Ms.the-type Ms′.the-laws) q′ ys f freeSlot b o inside (λ g.

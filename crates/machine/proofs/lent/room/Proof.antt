@@ -27,7 +27,7 @@ use denote.RattleType.{owns}
 use denote.Laws.{Is, Makes, shows}
 use denote.Plain.{uint-vals, uint-tells, uint-makes, bool-tells}
 use denote.Builtin.{u8, bool}
-use denote.Memory.{pointee, shares}
+use denote.Memory.{mem, pointee, shares}
 use denote.Ref.{RefT}
 use denote.Slice.{sliceTy, sliceVal, ShrSlice, heres, codedHoleys, Room, slice-vals, shr-slice-tells, at-slice}
 use denote.Index.{place-is, elem-out, elem-back, looks-slice, shuts-slice}
@@ -62,6 +62,10 @@ use Rattle.machine.proofs.lent.room as this
 use Rattle.machine.proofs.lent.room.Statement as stated
 use Rattle.machine.proofs.lent.room.Code as code
 use Rattle.machine.proofs.lent.room.Code.Mir as pieces
+
+-- how many bytes a slot takes
+abbrev slotSize : ℕ
+slotSize = mem Ms.the-row .size
 
 abbrev valsMs : Message → List Val
 valsMs = LL.vals Ms.the-type Ms′.the-laws
@@ -162,9 +166,9 @@ module _ {M : Type 1} (𝓤 : URA M) (H : Heap 𝓤) (A : Atoms 𝓤) (W : Given
         land ! (from ! (stop !)) (init ! 8 refl (tt, tt)) $
         tests ! (reads ! (from ! (stop !)) (look ! 8 refl))
         (λ on.
-        assigns ! (bin ! (reads ! (from ! (stop !)) (look ! 12 refl)) (lit ! tt) (record { fits = fits-place 16 i n (small on) (room .1) })) (from ! (stop !)) (store ! 6 refl (tt, record { fits = fits-place 16 i n (small on) (room .1) })) $
+        assigns ! (bin ! (reads ! (from ! (stop !)) (look ! 12 refl)) (lit ! tt) (record { fits = fits-place slotSize i n (small on) (room .1) })) (from ! (stop !)) (store ! 6 refl (tt, record { fits = fits-place slotSize i n (small on) (room .1) })) $
         assigns ! (bin ! (reads ! (from ! (fld ! refl (stop !))) (look-in ! 18 (sub ! 0 refl (whole !)))) (reads ! (from ! (stop !)) (look ! 6 refl)) tt) (from ! (stop !)) (init ! 4 refl (tt, tt)) $
-        rewrite ! 4 (λ (p : ℕ). ‵ (fat fullShare tyPtr l₈ 0 (vptr b p))) (sym (place-is 16 o i)) refl $
+        rewrite ! 4 (λ (p : ℕ). ‵ (fat fullShare tyPtr l₈ 0 (vptr b p))) (sym (place-is slotSize o i)) refl $
         move ! (1 ∷ 0 ∷ []) $
         looks-slice ! tt Ms.the-row (Is Ms.the-row) (shows 𝓤 H A Ms.the-row) valsMs (LL.tells Ms.the-type Ms′.the-laws) (LL.copy Ms.the-type Ms′.the-copy 𝓤 H A W) ys b o (λ q′.
         elem-out ! Ms.the-row (Is Ms.the-row) (shows 𝓤 H A Ms.the-row) valsMs (LL.tells Ms.the-type Ms′.the-laws) q′ ys i freeSlot b o (small on) (λ g.

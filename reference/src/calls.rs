@@ -3,8 +3,8 @@
 
 use crate::clock::scan_time;
 use crate::layout;
-use crate::machine::GREATEST_NUMBER;
 use crate::printer;
+use crate::records::GREATEST_NUMBER;
 use crate::refusal::{Refusal, NO_ROOM, OUTSIDE_SIZES};
 use crate::roles::{self, test_alive};
 use crate::scan_table::{self, Record};

@@ -3,7 +3,7 @@
 //! low one first; a set of acceptors is 1 byte, acceptor 0 its lowest bit; a
 //! flag is 1 byte, 0 or 1. A record's fields stand in the order of its struct.
 
-use crate::machine::{
+use crate::records::{
     acceptor_within, learner_within, proposer_within, Acceptor, Heard, Learner, Proposer,
 };
 use crate::refusal::{Refusal, OUTSIDE_RANGE, OUTSIDE_SIZES};

@@ -11,6 +11,7 @@ pub mod layout;
 pub mod machine;
 pub mod numbers;
 pub mod printer;
+pub mod records;
 pub mod refusal;
 pub mod rng;
 pub mod roles;

@@ -1,7 +1,7 @@
 //! The rules of one proposer, one acceptor and one learner, each on its own
 //! record.
 
-use crate::machine::{Acceptor, Learner, Proposer, GREATEST_NUMBER};
+use crate::records::{Acceptor, Learner, Proposer, GREATEST_NUMBER};
 use crate::refusal::{Refusal, CRASHED, NOT_ENABLED, NUMBER_SPENT};
 use crate::sets::{acceptors, scans};
 

@@ -3,17 +3,17 @@ use mathlib.Core.Bool.{Bool, true, false}
 use mathlib.Core.List.{List, [], _∷_, _++_, append-nil}
 use mathlib.Core.Path.{_≡_, refl, sym, ap, _∙_}
 use Prim.Native.Nat.{ℕ, zero, suc, _+_, _-_, _*_, _/_, _%_, _^_, _≤_, _<_}
-use native.Mathlib.Nat.{not-suc-le-zero, le-of-suc-le-suc, pow-suc, pow-le-pow-right, div-add-mod', min-eq-left}
+use native.Mathlib.Nat.{not-suc-le-zero, le-of-suc-le-suc, pow-suc, div-add-mod', min-eq-left}
 use native.Mathlib.Omega.{arith}
 use lib.Arith.{digits-div, digits-mod}
 use lib.Dec.{eqb}
 use lib.ListN.{length, getD, set, take, drop, replicate, take-append-drop}
 use lib.Seq.{sets, set-getD, getD-drop, drop-cons, drop-at, drop-drop, take-suc, take-at, take-all, length-take-le}
-use borrow.Author.Tests.{ltb-true, leb-true}
+use borrow.Author.Tests.{leb-true}
 use Rattle.choice.specs.Choice.{if_then_else_}
-use Rattle.sets.specs.Scans.{fits}
-use Rattle.sets.specs.Scans as scans
+use Rattle.sets.specs.Scans.{mostScans, fits, firstWord, ofFirstWord}
 use Rattle.sets.specs.declared.scans.Scans.{Scans}
+use Rattle.sets.proofs.ScanLaws.{first-of-first, of-first-word, first-within}
 use Rattle.sizes.specs.Sizes.{sizesInRange}
 use Rattle.sizes.specs.declared.Sizes.{Sizes}
 use Rattle.sizes.proofs.SizeLaws.{bounds}
@@ -25,7 +25,7 @@ use Rattle.model.specs.declared.Heard.{Heard}
 use Rattle.model.specs.declared.Learner.{Learner}
 use Rattle.model.specs.declared.Proposer.{Proposer}
 use Rattle.choice.proofs.Tests.{and-l, and-r}
-use Rattle.layouts.specs.Layout.{wordAt, wordBytes, setAt, setBytes, isFlag, flagAt, flagBytes, flagged, isAcceptor, acceptorAt, acceptorBytes, isProposer, proposerAt, proposerBytes, heardPlace, heardAt, heardBytes, placesAt, placesBytes, isLearner, learnerAt, learnerBytes}
+use Rattle.layouts.specs.Layout.{wordAt, wordBytes, setSize, setAt, setBytes, isFlag, flagAt, flagBytes, flagged, flaggedSize, isAcceptor, acceptorAt, acceptorBytes, bufferedPlace, proposedPlace, gatheredPlace, numberPlace, acknowledgedPlace, rejectedPlace, decidedPlace, isProposer, proposerAt, proposerBytes, heardSize, heardPlace, heardAt, heardBytes, placesAt, placesBytes, isLearner, learnerAt, learnerBytes}
 use Rattle.layouts.proofs.Parts.{put-whole, proposer-whole, put-fields, acceptor-length, learner-sizes, few-proposers}
 use Rattle.layouts.proofs.Places.{eight-heard, length-places-at, length-places, places-append, put-heard-fields, learner-whole, put-learner-parts}
 
@@ -70,13 +70,15 @@ flag-same bytes at e = rw (flag-value (getD bytes at 0) (leb-true (getD bytes at
 
 -- ---- sets
 
--- a set of a run is a number of 8 bytes
-set-small : (z : Sizes) (v : Scans) → sizesInRange z ≡ true → fits v (z .scans) ≡ true → v .bits < 256 ^ 8
-unfolding fits scans.every scans.word scans.digitsBelow
-set-small z v e f =
+set-back : (z : Sizes) (v : Scans) → sizesInRange z ≡ true → fits v (z .scans) ≡ true → setAt (setBytes v) 0 ≡ v
+unfolding mostScans
+set-back z v e f =
     let s = bounds z e .few-scans in
-    let p : 2 ^ z .scans ≤ 2 ^ 64 = pow-le-pow-right {n = 2} (omega arith) {i = z .scans} {j = 64} s in
-    omega (arith, ltb-true (v .bits) (2 ^ z .scans) f)
+    ap ofFirstWord (word-back 8 (firstWord v) (first-within v (z .scans) f s)) ∙ of-first-word v (z .scans) f s
+
+pub set-same : (bytes : List ℕ) → AreBytes bytes → (at : ℕ) → sets bytes at (setBytes (setAt bytes at)) ≡ bytes
+set-same bytes b at =
+    ap (λ (w : ℕ). sets bytes at (wordBytes 8 w)) (first-of-first (wordAt 8 bytes at)) ∙ word-same 8 bytes b at
 
 -- ---- an acceptor's record
 
@@ -88,8 +90,8 @@ module _ (z : Sizes) (q : Acceptor) (e : sizesInRange z ≡ true) (x : acceptorI
   pub acceptor-back : acceptorAt (acceptorBytes q) ≡ q
   unfolding acceptorAt acceptorBytes wordAt wordBytes
   acceptor-back =
-      let w = word-back 8 (q .accepted .bits) (set-small z (q .accepted) e accepted-fits) in
-      λ i. record { alive = flag-back (q .alive) i; accepted = record { bits = w i } }
+      let v = set-back z (q .accepted) e accepted-fits in
+      λ i. record { alive = flag-back (q .alive) i; accepted = v i }
 
 pub acceptor-same : (s : ℕ) (bytes : List ℕ) → AreBytes bytes → isAcceptor s bytes ≡ true → acceptorBytes (acceptorAt bytes) ≡ bytes
 unfolding isAcceptor acceptorAt acceptorBytes wordBytes
@@ -98,7 +100,7 @@ acceptor-same s bytes b e =
     let g = flag-same bytes 0 f in
     sym (put-whole bytes (acceptorBytes (acceptorAt bytes)) (acceptor-length s bytes e))
     ∙ ap (λ (l : List ℕ). sets l 1 (setBytes (setAt bytes 1))) g
-    ∙ word-same 8 bytes b 1
+    ∙ set-same bytes b 1
 
 -- ---- a proposer's record
 
@@ -107,21 +109,21 @@ module _ (z : Sizes) (p : Proposer) (e : sizesInRange z ≡ true) (x : proposerI
   unfolding proposerInRange proposerAt proposerBytes wordAt wordBytes
   proposer-back =
       let n : p .number ≤ 1_000 = search (and-l, and-r, leb-true) depth 9 in
-      let v₁ = word-back 8 (p .buffered .bits) (set-small z (p .buffered) e (search (and-l, and-r) depth 12)) in
-      let v₂ = word-back 8 (p .proposed .bits) (set-small z (p .proposed) e (search (and-l, and-r) depth 12)) in
-      let v₃ = word-back 8 (p .gathered .bits) (set-small z (p .gathered) e (search (and-l, and-r) depth 12)) in
-      let v₄ = word-back 8 (p .decided .bits) (set-small z (p .decided) e (search (and-l, and-r) depth 12)) in
+      let v₁ = set-back z (p .buffered) e (search (and-l, and-r) depth 12) in
+      let v₂ = set-back z (p .proposed) e (search (and-l, and-r) depth 12) in
+      let v₃ = set-back z (p .gathered) e (search (and-l, and-r) depth 12) in
+      let v₄ = set-back z (p .decided) e (search (and-l, and-r) depth 12) in
       let w = word-back 2 (p .number) (omega arith) in
       λ i. record {
         alive = flag-back (p .alive) i;
         active = flag-back (p .active) i;
-        buffered = record { bits = v₁ i };
-        proposed = record { bits = v₂ i };
-        gathered = record { bits = v₃ i };
+        buffered = v₁ i;
+        proposed = v₂ i;
+        gathered = v₃ i;
         number = w i;
         acknowledged = p .acknowledged;
         rejected = p .rejected;
-        decided = record { bits = v₄ i };
+        decided = v₄ i;
       }
 
 pub proposer-same : (a s : ℕ) (bytes : List ℕ) → AreBytes bytes → isProposer a s bytes ≡ true → proposerBytes (proposerAt bytes) ≡ bytes
@@ -135,13 +137,13 @@ proposer-same a s bytes b e =
     (proposerAt bytes)
     (sym (flag-same bytes 0 f))
     (sym (flag-same bytes 1 g))
-    (sym (word-same 8 bytes b 2))
-    (sym (word-same 8 bytes b 10))
-    (sym (word-same 8 bytes b 18))
-    (sym (word-same 2 bytes b 26))
-    (sym (set-getD bytes 28 0))
-    (sym (set-getD bytes 29 0))
-    (sym (word-same 8 bytes b 30))
+    (sym (set-same bytes b bufferedPlace))
+    (sym (set-same bytes b proposedPlace))
+    (sym (set-same bytes b gatheredPlace))
+    (sym (word-same 2 bytes b numberPlace))
+    (sym (set-getD bytes acknowledgedPlace 0))
+    (sym (set-getD bytes rejectedPlace 0))
+    (sym (set-same bytes b decidedPlace))
     ∙ proposer-whole a s bytes (proposerAt bytes) e)
 
 -- ---- a learner's record
@@ -164,8 +166,8 @@ heard-drop bytes k =
     let z : k + 0 ≡ k = omega arith in
     λ i. record {
       number = (word-drop 2 bytes k 0 ∙ ap (wordAt 2 bytes) z) i;
-      set = record { bits = word-drop 8 bytes k 2 i };
-      acceptors = record { bits = getD-drop k bytes 10 0 i };
+      set = ofFirstWord (word-drop 8 bytes k 2 i);
+      acceptors = record { bits = getD-drop k bytes (2 + setSize) 0 i };
     }
 
 heard-back : (z : Sizes) (h : Heard) (rest : List ℕ) → sizesInRange z ≡ true → heardInRange z h ≡ true → heardAt (heardBytes h ++ rest) 0 ≡ h
@@ -173,21 +175,21 @@ unfolding heardInRange heardAt heardBytes wordAt wordBytes
 heard-back z h rest e x =
     let n : h .number ≤ 1_000 = search (and-l, and-r, leb-true) depth 9 in
     let w = word-back 2 (h .number) (omega arith) in
-    let v = word-back 8 (h .set .bits) (set-small z (h .set) e (search (and-l, and-r) depth 12)) in
-    λ i. record { number = w i; set = record { bits = v i }; acceptors = h .acceptors }
+    let v = set-back z (h .set) e (search (and-l, and-r) depth 12) in
+    λ i. record { number = w i; set = v i; acceptors = h .acceptors }
 
-drop-places : (n : ℕ) (hs : List Heard) → n ≤ length hs → drop (11 * n) (placesBytes hs) ≡ placesBytes (drop n hs)
+drop-places : (n : ℕ) (hs : List Heard) → n ≤ length hs → drop (heardSize * n) (placesBytes hs) ≡ placesBytes (drop n hs)
 drop-places n hs h =
     let e : placesBytes hs ≡ placesBytes (take n hs) ++ placesBytes (drop n hs) = ap placesBytes (sym (take-append-drop n hs)) ∙ places-append (take n hs) (drop n hs) in
-    rw e (drop-at (placesBytes (take n hs)) (placesBytes (drop n hs)) (11 * n) (length-places (take n hs) ∙ ap (λ (k : ℕ). 11 * k) (length-take-le n hs h)))
+    rw e (drop-at (placesBytes (take n hs)) (placesBytes (drop n hs)) (heardSize * n) (length-places (take n hs) ∙ ap (λ (k : ℕ). heardSize * k) (length-take-le n hs h)))
 
-module _ (z : Sizes) (front : List ℕ) (hs : List Heard) (f : length front ≡ 9) (e : sizesInRange z ≡ true) where
+module _ (z : Sizes) (front : List ℕ) (hs : List Heard) (f : length front ≡ flaggedSize) (e : sizesInRange z ≡ true) where
   place-back : (n : ℕ) → n < length hs → heardInRange z (getD hs n unheard) ≡ true → heardAt (front ++ placesBytes hs) (heardPlace n) ≡ getD hs n unheard
   unfolding placesBytes
   place-back n h x =
       let bytes = front ++ placesBytes hs in
       let d : drop (heardPlace n) bytes ≡ heardBytes (getD hs n unheard) ++ placesBytes (drop (suc n) hs) =
-      sym (drop-drop (11 * n) 9 bytes) ∙ ap (drop (11 * n)) (drop-at front (placesBytes hs) 9 f) ∙ drop-places n hs (omega arith) ∙ ap placesBytes (drop-cons hs n unheard h) in
+      sym (drop-drop (heardSize * n) flaggedSize bytes) ∙ ap (drop (heardSize * n)) (drop-at front (placesBytes hs) flaggedSize f) ∙ drop-places n hs (omega arith) ∙ ap placesBytes (drop-cons hs n unheard h) in
       sym (heard-drop bytes (heardPlace n)) ∙ ap (λ (l : List ℕ). heardAt l 0) d ∙ heard-back z (getD hs n unheard) (placesBytes (drop (suc n) hs)) e x
 
   places-back : (n : ℕ) → n ≤ length hs → ((i : ℕ) → i < n → heardInRange z (getD hs i unheard) ≡ true) → placesAt n (front ++ placesBytes hs) ≡ take n hs
@@ -233,10 +235,10 @@ module _ (z : Sizes) (l : Learner) (many : z .proposers ≤ length (l .heard)) (
   pub learner-back : learnerAt (z .proposers) (learnerBytes (z .proposers) l) ≡ ownPlaces (z .proposers) l
   unfolding learnerAt learnerBytes own wordAt wordBytes
   learner-back =
-      let w = word-back 8 (l .learnt .bits) (set-small z (l .learnt) e learnt-fits) in
+      let v = set-back z (l .learnt) e learnt-fits in
       λ i. record {
         alive = flag-back (l .alive) i;
-        learnt = record { bits = w i };
+        learnt = v i;
         heard = (ap (λ (n : ℕ). placesAt n (learnerBytes (z .proposers) l)) (min-eq-left few) ∙ own-back) i ++ replicate (8 - z .proposers) unheard;
       }
 
@@ -244,17 +246,17 @@ module _ (bytes : List ℕ) (b : AreBytes bytes) where
   heard-same : (at : ℕ) → sets bytes at (heardBytes (heardAt bytes at)) ≡ bytes
   unfolding heardAt
   heard-same at =
-      sym (put-heard-fields bytes at (heardAt bytes at) (sym (word-same 2 bytes b at)) (sym (word-same 8 bytes b (at + 2))) (sym (set-getD bytes (at + 10) 0)))
+      sym (put-heard-fields bytes at (heardAt bytes at) (sym (word-same 2 bytes b at)) (sym (set-same bytes b (at + 2))) (sym (set-getD bytes (at + (2 + setSize)) 0)))
 
-  places-same : (n : ℕ) → sets bytes 9 (placesBytes (placesAt n bytes)) ≡ bytes
+  places-same : (n : ℕ) → sets bytes flaggedSize (placesBytes (placesAt n bytes)) ≡ bytes
   unfolding placesAt placesBytes
   places-same zero = refl
   places-same (suc n) =
       let us = placesBytes (placesAt n bytes) in
       let h = heardAt bytes (heardPlace n) in
-      let m : 9 + length us ≡ heardPlace n = omega (arith, length-places (placesAt n bytes), length-places-at n bytes) in
-      ap (sets bytes 9) (places-append (placesAt n bytes) (h ∷ []) ∙ ap (λ (l : List ℕ). us ++ l) (append-nil (heardBytes h)))
-      ∙ sets-append us (heardBytes h) bytes 9
+      let m : flaggedSize + length us ≡ heardPlace n = omega (arith, length-places (placesAt n bytes), length-places-at n bytes) in
+      ap (sets bytes flaggedSize) (places-append (placesAt n bytes) (h ∷ []) ∙ ap (λ (l : List ℕ). us ++ l) (append-nil (heardBytes h)))
+      ∙ sets-append us (heardBytes h) bytes flaggedSize
       ∙ rw (places-same n, m) (heard-same (heardPlace n))
 
   pub learner-same : (p a s : ℕ) → isLearner p a s bytes ≡ true → learnerBytes p (learnerAt p bytes) ≡ bytes
@@ -270,6 +272,6 @@ module _ (bytes : List ℕ) (b : AreBytes bytes) where
       (learnerAt p bytes)
       (sym t)
       (sym (flag-same bytes 0 f))
-      (sym (word-same 8 bytes b 1))
+      (sym (set-same bytes b 1))
       (sym (places-same p))
       ∙ learner-whole p a s bytes (learnerAt p bytes) (eight-heard p bytes) e)

@@ -9,12 +9,13 @@ use lib.Seq.{sets, sets-eq}
 use mir.Val.{boolByte}
 use borrow.Author.Tests.{ltb-true, leb-true, eqb-true, not-true, not-false}
 use Rattle.choice.specs.Choice.{if_then_else_}
+use Rattle.sets.specs.Scans.{firstWord}
 use Rattle.sets.specs.declared.scans.Scans.{Scans}
 use Rattle.sizes.specs.Sizes.{sizesInRange}
 use Rattle.sizes.proofs.SizeLaws.{bounds}
 use Rattle.model.specs.declared.Proposer.{Proposer}
 use Rattle.choice.proofs.Tests.{and-l, and-r}
-use Rattle.layouts.specs.Layout.{sizesOf, wordBytes, setBytes, numberBytes, acceptorsBytes, flagBytes, flagged, isAnswer, isAcceptor, isProposer, proposerBytes, heardPlace, isLearner}
+use Rattle.layouts.specs.Layout.{sizesOf, wordBytes, setSize, setBytes, numberBytes, acceptorsBytes, flagBytes, flagged, flaggedSize, isAnswer, isAcceptor, bufferedPlace, proposedPlace, gatheredPlace, numberPlace, acknowledgedPlace, rejectedPlace, decidedPlace, proposerSize, isProposer, proposerBytes, heardPlace, isLearner}
 
 -- ---- a test by a function, in what its result is
 
@@ -44,16 +45,19 @@ put-whole bytes new e =
     let q : length bytes ≤ 0 + length new = omega arith in
     sets-eq new bytes 0 (omega arith) ∙ rw (drop-of-length-le bytes q) (append-nil new)
 
-pub flagged-whole : (bytes : List ℕ) (t : Bool) (v : Scans) → length bytes ≡ 9 → sets bytes 0 (flagged t v) ≡ flagged t v
-flagged-whole bytes t v e = put-whole bytes (flagged t v) (e ∙ ap suc (sym (length-word 8 (v .bits))))
+pub length-set : (v : Scans) → length (setBytes v) ≡ setSize
+length-set v = length-word 8 (firstWord v)
+
+pub flagged-whole : (bytes : List ℕ) (t : Bool) (v : Scans) → length bytes ≡ flaggedSize → sets bytes 0 (flagged t v) ≡ flagged t v
+flagged-whole bytes t v e = put-whole bytes (flagged t v) (e ∙ ap suc (sym (length-set v)))
 
 -- ---- the lengths of what passed its tests
 
-pub acceptor-length : (s : ℕ) (bytes : List ℕ) → isAcceptor s bytes ≡ true → length bytes ≡ 9
+pub acceptor-length : (s : ℕ) (bytes : List ℕ) → isAcceptor s bytes ≡ true → length bytes ≡ flaggedSize
 unfolding isAcceptor
 acceptor-length s bytes e = search (and-l, and-r, eqb-true) depth 9
 
-proposer-length : (a s : ℕ) (bytes : List ℕ) → isProposer a s bytes ≡ true → length bytes ≡ 38
+proposer-length : (a s : ℕ) (bytes : List ℕ) → isProposer a s bytes ≡ true → length bytes ≡ proposerSize
 unfolding isProposer
 proposer-length a s bytes e = search (and-l, and-r, eqb-true) depth 9
 
@@ -97,14 +101,14 @@ answer-number a j n e = search (and-l, and-r, leb-true) depth 9
 pub put-fields : (b₀ : List ℕ) {b₁ b₂ b₃ b₄ b₅ b₆ b₇ b₈ b₉ : List ℕ} (p : Proposer)
     → b₁ ≡ sets b₀ 0 (flagBytes (p .alive))
     → b₂ ≡ sets b₁ 1 (flagBytes (p .active))
-    → b₃ ≡ sets b₂ 2 (setBytes (p .buffered))
-    → b₄ ≡ sets b₃ 10 (setBytes (p .proposed))
-    → b₅ ≡ sets b₄ 18 (setBytes (p .gathered))
-    → b₆ ≡ sets b₅ 26 (numberBytes (p .number))
-    → b₇ ≡ sets b₆ 28 (acceptorsBytes (p .acknowledged))
-    → b₈ ≡ sets b₇ 29 (acceptorsBytes (p .rejected))
-    → b₉ ≡ sets b₈ 30 (setBytes (p .decided))
+    → b₃ ≡ sets b₂ bufferedPlace (setBytes (p .buffered))
+    → b₄ ≡ sets b₃ proposedPlace (setBytes (p .proposed))
+    → b₅ ≡ sets b₄ gatheredPlace (setBytes (p .gathered))
+    → b₆ ≡ sets b₅ numberPlace (numberBytes (p .number))
+    → b₇ ≡ sets b₆ acknowledgedPlace (acceptorsBytes (p .acknowledged))
+    → b₈ ≡ sets b₇ rejectedPlace (acceptorsBytes (p .rejected))
+    → b₉ ≡ sets b₈ decidedPlace (setBytes (p .decided))
     → b₉ ≡ sets b₀ 0 (proposerBytes p)
 unfolding wordBytes proposerBytes
 put-fields b₀ p e₁ e₂ e₃ e₄ e₅ e₆ e₇ e₈ e₉ =
-    e₉ ∙ ap (λ (l : List ℕ). sets l 30 (setBytes (p .decided))) (e₈ ∙ ap (λ (l : List ℕ). sets l 29 (acceptorsBytes (p .rejected))) (e₇ ∙ ap (λ (l : List ℕ). sets l 28 (acceptorsBytes (p .acknowledged))) (e₆ ∙ ap (λ (l : List ℕ). sets l 26 (numberBytes (p .number))) (e₅ ∙ ap (λ (l : List ℕ). sets l 18 (setBytes (p .gathered))) (e₄ ∙ ap (λ (l : List ℕ). sets l 10 (setBytes (p .proposed))) (e₃ ∙ ap (λ (l : List ℕ). sets l 2 (setBytes (p .buffered))) (e₂ ∙ ap (λ (l : List ℕ). sets l 1 (flagBytes (p .active))) e₁)))))))
+    e₉ ∙ ap (λ (l : List ℕ). sets l decidedPlace (setBytes (p .decided))) (e₈ ∙ ap (λ (l : List ℕ). sets l rejectedPlace (acceptorsBytes (p .rejected))) (e₇ ∙ ap (λ (l : List ℕ). sets l acknowledgedPlace (acceptorsBytes (p .acknowledged))) (e₆ ∙ ap (λ (l : List ℕ). sets l numberPlace (numberBytes (p .number))) (e₅ ∙ ap (λ (l : List ℕ). sets l gatheredPlace (setBytes (p .gathered))) (e₄ ∙ ap (λ (l : List ℕ). sets l proposedPlace (setBytes (p .proposed))) (e₃ ∙ ap (λ (l : List ℕ). sets l bufferedPlace (setBytes (p .buffered))) (e₂ ∙ ap (λ (l : List ℕ). sets l 1 (flagBytes (p .active))) e₁)))))))

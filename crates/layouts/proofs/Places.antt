@@ -17,7 +17,7 @@ use Rattle.model.specs.declared.Learner.{Learner}
 use Rattle.model.specs.declared.Message.{Message}
 use Rattle.model.proofs.RuleLaws.{listening-heard}
 use Rattle.model.proofs.Moments.{earlier}
-use Rattle.layouts.specs.Layout.{wordBytes, setBytes, numberBytes, acceptorsBytes, flagBytes, flagged, heardPlace, heardBytes, heardAt, placesBytes, placesAt, isLearner, learnerAt, learnerBytes}
+use Rattle.layouts.specs.Layout.{wordBytes, setSize, setBytes, numberBytes, acceptorsBytes, flagBytes, flagged, flaggedSize, heardSize, heardPlace, heardBytes, heardAt, placesBytes, placesAt, isLearner, learnerAt, learnerBytes}
 use Rattle.layouts.proofs.Parts.{put-whole, learner-length, learner-sizes, few-proposers}
 
 -- ---- reading
@@ -59,11 +59,11 @@ eight-listening a p bytes m = ap length (listening-heard a (learnerAt p bytes) m
 
 -- ---- writing
 
-pub length-heard : (h : Heard) → length (heardBytes h) ≡ 11
+pub length-heard : (h : Heard) → length (heardBytes h) ≡ heardSize
 unfolding wordBytes heardBytes
 length-heard h = refl
 
-pub length-places : (hs : List Heard) → length (placesBytes hs) ≡ 11 * length hs
+pub length-places : (hs : List Heard) → length (placesBytes hs) ≡ heardSize * length hs
 unfolding placesBytes
 length-places [] = refl
 length-places (h ∷ hs) = length-append (heardBytes h) (placesBytes hs) ∙ omega (arith, length-heard h, length-places hs)
@@ -75,27 +75,27 @@ places-append (h ∷ hs) ks = ap (λ (l : List ℕ). heardBytes h ++ l) (places-
 
 -- the place after the first i
 pub put-place : (kept : List ℕ) (hs : List Heard) (i : ℕ) → i < length hs
-    → sets (sets kept 9 (placesBytes (take i hs))) (heardPlace i) (heardBytes (getD hs i unheard)) ≡ sets kept 9 (placesBytes (take (i + 1) hs))
+    → sets (sets kept flaggedSize (placesBytes (take i hs))) (heardPlace i) (heardBytes (getD hs i unheard)) ≡ sets kept flaggedSize (placesBytes (take (i + 1) hs))
 unfolding placesBytes
 put-place kept hs i h =
     let us = placesBytes (take i hs) in
     let v = heardBytes (getD hs i unheard) in
-    let n : heardPlace i ≡ 9 + length us = omega (arith, length-places (take i hs), length-take-le i hs (omega arith)) in
+    let n : heardPlace i ≡ flaggedSize + length us = omega (arith, length-places (take i hs), length-take-le i hs (omega arith)) in
     let e : placesBytes (take (suc i) hs) ≡ us ++ v = ap placesBytes (take-suc hs i unheard h) ∙ places-append (take i hs) (getD hs i unheard ∷ []) ∙ ap (λ (l : List ℕ). us ++ l) (append-nil v) in
-    rw (add-one i, e, n) (sym (sets-append us v kept 9))
+    rw (add-one i, e, n) (sym (sets-append us v kept flaggedSize))
 
 -- the three fields of a place, put one after the other
 pub put-heard-fields : (b₀ : List ℕ) (at : ℕ) {b₁ b₂ b₃ : List ℕ} (h : Heard)
     → b₁ ≡ sets b₀ at (numberBytes (h .number))
     → b₂ ≡ sets b₁ (at + 2) (setBytes (h .set))
-    → b₃ ≡ sets b₂ (at + 10) (acceptorsBytes (h .acceptors))
+    → b₃ ≡ sets b₂ (at + (2 + setSize)) (acceptorsBytes (h .acceptors))
     → b₃ ≡ sets b₀ at (heardBytes h)
 unfolding wordBytes heardBytes
 put-heard-fields b₀ at h e₁ e₂ e₃ =
     let n = numberBytes (h .number) in
     let v = setBytes (h .set) in
     let q = acceptorsBytes (h .acceptors) in
-    e₃ ∙ ap (λ (l : List ℕ). sets l (at + 10) q) (e₂ ∙ ap (λ (l : List ℕ). sets l (at + 2) v) e₁ ∙ sym (sets-append n v b₀ at)) ∙ sym (sets-append (n ++ v) q b₀ at)
+    e₃ ∙ ap (λ (l : List ℕ). sets l (at + (2 + setSize)) q) (e₂ ∙ ap (λ (l : List ℕ). sets l (at + 2) v) e₁ ∙ sym (sets-append n v b₀ at)) ∙ sym (sets-append (n ++ v) q b₀ at)
 
 pub length-learner : (p : ℕ) (l : Learner) → p ≤ length (l .heard) → length (learnerBytes p l) ≡ heardPlace p
 unfolding wordBytes learnerBytes
@@ -121,11 +121,11 @@ pub put-learner-parts : (b₀ : List ℕ) (p : ℕ) {b₁ b₂ b₃ : List ℕ} 
     → hs ≡ take p (l .heard)
     → b₁ ≡ sets b₀ 0 (flagBytes (l .alive))
     → b₂ ≡ sets b₁ 1 (setBytes (l .learnt))
-    → b₃ ≡ sets b₂ 9 (placesBytes hs)
+    → b₃ ≡ sets b₂ flaggedSize (placesBytes hs)
     → b₃ ≡ sets b₀ 0 (learnerBytes p l)
 unfolding wordBytes learnerBytes
 put-learner-parts b₀ p l {hs = hs} own e₁ e₂ e₃ =
     e₃
-    ∙ ap (λ (b : List ℕ). sets b 9 (placesBytes hs)) (e₂ ∙ ap (λ (b : List ℕ). sets b 1 (setBytes (l .learnt))) e₁)
+    ∙ ap (λ (b : List ℕ). sets b flaggedSize (placesBytes hs)) (e₂ ∙ ap (λ (b : List ℕ). sets b 1 (setBytes (l .learnt))) e₁)
     ∙ sym (sets-append (flagged (l .alive) (l .learnt)) (placesBytes hs) b₀ 0)
     ∙ ap (λ (ks : List Heard). sets b₀ 0 (flagged (l .alive) (l .learnt) ++ placesBytes ks)) own

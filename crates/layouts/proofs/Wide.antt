@@ -2,13 +2,14 @@
 use mathlib.Core.Bool.{Bool, true}
 use mathlib.Core.Logic.{⊎-elim}
 use mathlib.Core.Path.{_≡_, sym, ap, _∙_}
-use Prim.Native.Nat.{ℕ, _^_, _≤_, _<_, min}
-use native.Mathlib.Nat.{min-eq-left, min-eq-right, pow-le-pow-right}
+use Prim.Native.Nat.{ℕ, _≤_, _<_, min}
+use native.Mathlib.Nat.{min-eq-left, min-eq-right}
 use native.Mathlib.Omega.{arith}
-use borrow.Author.Tests.{lt-ltb, le-leb, lt-leb}
+use borrow.Author.Tests.{le-leb, lt-leb}
 use Rattle.sets.specs.Acceptors.{mostAcceptors}
-use Rattle.sets.specs.Scans.{mostScans, word, every, digitsBelow, fits}
+use Rattle.sets.specs.Scans.{mostScans, fits}
 use Rattle.sets.specs.declared.scans.Scans.{Scans}
+use Rattle.sets.proofs.ScanLaws.{fits-more}
 use Rattle.sizes.specs.Sizes.{between, scansInRange, sizesInRange}
 use Rattle.sizes.specs.declared.Sizes.{Sizes}
 use Rattle.sizes.proofs.SizeLaws.{bounds}
@@ -46,10 +47,9 @@ module _ (p a s : ℕ) where
       λ i. sizesOf (x i) (y i) (w i)
 
 -- a set within m scans is within more
-pub fits-min : (v : Scans) (s m : ℕ) → v .bits < 2 ^ m → fits v (min s m) ≡ fits v s
-unfolding fits every word digitsBelow
+pub fits-min : (v : Scans) (s m : ℕ) → fits v m ≡ true → fits v (min s m) ≡ fits v s
 fits-min v s m h =
     ⊎-elim
     (λ (i : s ≤ m). ap (fits v) (min-eq-left i))
-    (λ (i : m ≤ s). let p : 2 ^ m ≤ 2 ^ s = pow-le-pow-right {n = 2} (omega arith) {i = m} {j = s} i in ap (fits v) (min-eq-right i) ∙ lt-ltb (v .bits) (2 ^ m) h ∙ sym (lt-ltb (v .bits) (2 ^ s) (omega arith)))
+    (λ (i : m ≤ s). ap (fits v) (min-eq-right i) ∙ h ∙ sym (fits-more v m s h i))
     (earlier s m)

@@ -5,7 +5,7 @@ use Prim.Native.Nat.{ℕ, zero, suc, _+_, _-_, _*_, _/_, _%_, min}
 use lib.Dec.{eqb, ltb, leb}
 use lib.ListN.{length, getD, take, replicate}
 use Rattle.choice.specs.Choice.{if_then_else_}
-use Rattle.sets.specs.Scans.{fits}
+use Rattle.sets.specs.Scans.{fits, firstWord, ofFirstWord}
 use Rattle.sets.specs.declared.scans.Scans.{Scans}
 use Rattle.sets.specs.declared.acceptors.Acceptors.{Acceptors}
 use Rattle.sizes.specs.Sizes.{between, sizesInRange}
@@ -34,12 +34,18 @@ wordBytes (suc n) word = word % 256 ∷ wordBytes n (word / 256)
 
 -- ---- the fields of records
 
--- a set is 8 bytes, scan 0 the lowest bit of the first
+-- a set is its words, 8 bytes each, scan 0 the lowest bit of the first byte
+abbrev pub setWords : ℕ
+setWords = 1
+
+abbrev pub setSize : ℕ
+setSize = 8 * setWords
+
 abbrev pub setAt : List ℕ → ℕ → Scans
-setAt bytes at = record { bits = wordAt 8 bytes at }
+setAt bytes at = ofFirstWord (wordAt 8 bytes at)
 
 abbrev pub setBytes : Scans → List ℕ
-setBytes v = wordBytes 8 (v .bits)
+setBytes v = wordBytes 8 (firstWord v)
 
 -- a proposal's number is 2 bytes
 abbrev pub numberAt : List ℕ → ℕ → ℕ
@@ -65,17 +71,20 @@ flagAt bytes at = eqb (getD bytes at 0) 1
 abbrev pub flagBytes : Bool → List ℕ
 flagBytes t = (if t then 1 else 0) ∷ []
 
--- ---- a set by itself, 8 bytes: within S
+-- ---- a set by itself: within S
 
 unfoldable pub isSet : ℕ → List ℕ → Bool
-isSet s bytes = eqb (length bytes) 8 && fits (setAt bytes 0) s
+isSet s bytes = eqb (length bytes) setSize && fits (setAt bytes 0) s
 
 -- ---- an answer: from an acceptor of the run, to a proposal's number
 
 abbrev pub isAnswer : ℕ → ℕ → ℕ → Bool
 isAnswer a acceptor number = ltb acceptor a && between 1 greatestNumber number
 
--- ---- an acceptor's record, 9 bytes: alive, accepted
+-- ---- an acceptor's record: alive, accepted
+
+abbrev pub flaggedSize : ℕ
+flaggedSize = 1 + setSize
 
 abbrev pub flagged : Bool → Scans → List ℕ
 flagged t v = flagBytes t ++ setBytes v
@@ -90,11 +99,36 @@ acceptorAt bytes = record { alive = flagAt bytes 0; accepted = setAt bytes 1 }
 unfoldable pub isAcceptor : ℕ → List ℕ → Bool
 isAcceptor s bytes =
     sizesInRange (sizesOf 1 1 s)
-    && eqb (length bytes) 9
+    && eqb (length bytes) flaggedSize
     && isFlag bytes 0
     && acceptorInRange (sizesOf 1 1 s) (acceptorAt bytes)
 
--- ---- a proposer's record, 38 bytes: alive, active, buffered, proposed, gathered, number, acknowledged, rejected, decided
+-- ---- a proposer's record: alive, active, buffered, proposed, gathered, number, acknowledged, rejected, decided
+
+-- where a field begins, and the length of all
+abbrev pub bufferedPlace : ℕ
+bufferedPlace = 2
+
+abbrev pub proposedPlace : ℕ
+proposedPlace = bufferedPlace + setSize
+
+abbrev pub gatheredPlace : ℕ
+gatheredPlace = proposedPlace + setSize
+
+abbrev pub numberPlace : ℕ
+numberPlace = gatheredPlace + setSize
+
+abbrev pub acknowledgedPlace : ℕ
+acknowledgedPlace = numberPlace + 2
+
+abbrev pub rejectedPlace : ℕ
+rejectedPlace = acknowledgedPlace + 1
+
+abbrev pub decidedPlace : ℕ
+decidedPlace = rejectedPlace + 1
+
+abbrev pub proposerSize : ℕ
+proposerSize = decidedPlace + setSize
 
 unfoldable pub proposerBytes : Proposer → List ℕ
 proposerBytes p =
@@ -112,34 +146,37 @@ unfoldable pub proposerAt : List ℕ → Proposer
 proposerAt bytes = record {
   alive = flagAt bytes 0;
   active = flagAt bytes 1;
-  buffered = setAt bytes 2;
-  proposed = setAt bytes 10;
-  gathered = setAt bytes 18;
-  number = numberAt bytes 26;
-  acknowledged = acceptorsAt bytes 28;
-  rejected = acceptorsAt bytes 29;
-  decided = setAt bytes 30;
+  buffered = setAt bytes bufferedPlace;
+  proposed = setAt bytes proposedPlace;
+  gathered = setAt bytes gatheredPlace;
+  number = numberAt bytes numberPlace;
+  acknowledged = acceptorsAt bytes acknowledgedPlace;
+  rejected = acceptorsAt bytes rejectedPlace;
+  decided = setAt bytes decidedPlace;
 }
 
 unfoldable pub isProposer : ℕ → ℕ → List ℕ → Bool
 isProposer a s bytes =
     sizesInRange (sizesOf 1 a s)
-    && eqb (length bytes) 38
+    && eqb (length bytes) proposerSize
     && isFlag bytes 0
     && isFlag bytes 1
     && proposerInRange (sizesOf 1 a s) (proposerAt bytes)
 
--- ---- a learner's record, 9 bytes and 11 for each proposer: alive, learnt, then for each proposer number, set, acceptors
+-- ---- a learner's record: alive, learnt, then for each proposer number, set, acceptors
+
+abbrev pub heardSize : ℕ
+heardSize = 2 + setSize + 1
 
 abbrev pub heardPlace : ℕ → ℕ
-heardPlace i = 9 + 11 * i
+heardPlace i = flaggedSize + heardSize * i
 
 unfoldable pub heardBytes : Heard → List ℕ
 heardBytes h = numberBytes (h .number) ++ setBytes (h .set) ++ acceptorsBytes (h .acceptors)
 
 unfoldable pub heardAt : List ℕ → ℕ → Heard
 heardAt bytes at =
-    record { number = numberAt bytes at; set = setAt bytes (at + 2); acceptors = acceptorsAt bytes (at + 10) }
+    record { number = numberAt bytes at; set = setAt bytes (at + 2); acceptors = acceptorsAt bytes (at + (2 + setSize)) }
 
 -- what was heard of one proposer after the other
 unfoldable pub placesBytes : List Heard → List ℕ

@@ -1,6 +1,7 @@
 // An acceptor's record.
 ghost use mathlib.Core.Path.{_≡_};
 ghost use Rattle.layouts.specs.Layout.{isAcceptor, acceptorAt};
+use crate::fields::FLAGGED_SIZE;
 use crate::fields::flag_at;
 use crate::fields::is_flag;
 use crate::fields::set_at;
@@ -23,7 +24,7 @@ pub fn is_acceptor(kept: &[u8], scans: u64) -> bool
     if !z.in_range() {
         return false;
     }
-    if kept.len() != 9 {
+    if kept.len() != FLAGGED_SIZE as usize {
         return false;
     }
     if !is_flag(kept, 0) {

@@ -12,6 +12,11 @@ use sets::scans::MOST_SCANS;
 use sets::scans::Scans;
 use sizes::Sizes;
 
+// A set is one word, 8 bytes; before it a flag is one.
+pub const SET_SIZE: u16 = 8;
+
+pub(crate) const FLAGGED_SIZE: u16 = 1 + SET_SIZE;
+
 // The number, or the greatest where it is above that.
 pub(crate) fn at_most(n: u64, greatest: u16) -> u16
     ensures { λ r. ⌜ r ≡ min n greatest ⌝ }
@@ -86,22 +91,20 @@ fn put_word(bytes: &mut [u8], at: u16, count: usize, word: u64)
 pub fn set_at(bytes: &[u8], at: u16) -> Scans
     ensures { λ r. ⌜ r ≡ setAt (now (bytes .entry)) at ⌝ }
 {
-    Scans {
-        bits: word_at(bytes, at, 8),
-    }
+    Scans::of_first_word(word_at(bytes, at, 8))
 }
 
 pub(crate) fn put_set(bytes: &mut [u8], at: u16, set: Scans)
     ensures { λ _. ⌜ now (bytes .exit) ≡ sets (now (bytes .entry)) at (setBytes set) ⌝ }
 {
-    put_word(bytes, at, 8, set.bits);
+    put_word(bytes, at, 8, set.first_word());
 }
 
 // Whether the bytes are a set within so many scans. More than a set can hold count as that many.
 pub fn is_set(bytes: &[u8], scans: u64) -> bool
     ensures { λ r. ⌜ r ≡ isSet scans (now (bytes .entry)) ⌝ }
 {
-    if bytes.len() != 8 {
+    if bytes.len() != SET_SIZE as usize {
         return false;
     }
     let scans = at_most(scans, MOST_SCANS as u16);
@@ -163,7 +166,7 @@ pub(crate) fn put_flag(bytes: &mut [u8], at: u16, flag: bool)
     put_byte(bytes, at as usize, flag as u8);
 }
 
-// Puts a flag and a set, 9 bytes.
+// Puts a flag and a set.
 pub fn put_flagged(bytes: &mut [u8], flag: bool, set: Scans)
     ensures { λ _. ⌜ now (bytes .exit) ≡ sets (now (bytes .entry)) 0 (flagged flag set) ⌝ }
 {

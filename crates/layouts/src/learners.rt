@@ -3,7 +3,9 @@ ghost use mathlib.Core.Path.{_≡_};
 ghost use Prim.Native.Nat.{_≤_, _<_};
 ghost use lib.ListN.{take};
 ghost use lib.Seq.{sets};
-ghost use Rattle.layouts.specs.Layout.{heardPlace, heardAt, heardBytes, placesBytes, isLearner, learnerAt, learnerBytes};
+ghost use Rattle.layouts.specs.Layout.{flaggedSize, heardPlace, heardAt, heardBytes, placesBytes, isLearner, learnerAt, learnerBytes};
+use crate::fields::FLAGGED_SIZE;
+use crate::fields::SET_SIZE;
 use crate::fields::acceptors_at;
 use crate::fields::at_most;
 use crate::fields::flag_at;
@@ -18,15 +20,20 @@ use crate::fields::sizes_of;
 use model::Heard;
 use model::Learner;
 
+// A place is a number, a set and acceptors.
+const HEARD_ACCEPTORS: u16 = 2 + SET_SIZE;
+
+const HEARD_SIZE: u16 = HEARD_ACCEPTORS + 1;
+
 // What was heard of one proposer.
 fn heard_at(kept: &[u8], proposer: u16) -> Heard
     requires { ⌜ proposer < 8 ⌝ }
     ensures { λ r. ⌜ r ≡ heardAt (now (kept .entry)) (heardPlace proposer) ⌝ }
 {
-    let at = 9 + 11 * proposer;
+    let at = FLAGGED_SIZE + HEARD_SIZE * proposer;
     let number = number_at(kept, at);
     let set = set_at(kept, at + 2);
-    let acceptors = acceptors_at(kept, at + 10);
+    let acceptors = acceptors_at(kept, at + HEARD_ACCEPTORS);
     Heard {
         number,
         set,
@@ -38,10 +45,10 @@ fn put_heard(kept: &mut [u8], proposer: u16, heard: Heard)
     requires { ⌜ proposer < 8 ⌝ }
     ensures { λ _. ⌜ now (kept .exit) ≡ sets (now (kept .entry)) (heardPlace proposer) (heardBytes heard) ⌝ }
 {
-    let at = 9 + 11 * proposer;
+    let at = FLAGGED_SIZE + HEARD_SIZE * proposer;
     put_number(kept, at, heard.number);
     put_set(kept, at + 2, heard.set);
-    put_acceptors(kept, at + 10, heard.acceptors);
+    put_acceptors(kept, at + HEARD_ACCEPTORS, heard.acceptors);
 }
 
 pub fn learner_at(kept: &[u8], proposers: u64) -> Learner
@@ -66,7 +73,7 @@ pub fn learner_at(kept: &[u8], proposers: u64) -> Learner
 // Puts what was heard of the first proposers.
 fn put_places(kept: &mut [u8], l: Learner, count: u16)
     requires { ⌜ count ≤ 8 ⌝ }
-    ensures { λ _. ⌜ now (kept .exit) ≡ sets (now (kept .entry)) 9 (placesBytes (take count (l .heard))) ⌝ }
+    ensures { λ _. ⌜ now (kept .exit) ≡ sets (now (kept .entry)) flaggedSize (placesBytes (take count (l .heard))) ⌝ }
 {
     let mut i: u16 = 0;
     while i < count {
@@ -92,7 +99,7 @@ pub fn is_learner(kept: &[u8], proposers: u64, acceptors: u64, scans: u64) -> bo
     if !z.in_range() {
         return false;
     }
-    if kept.len() != 9 + 11 * proposers as usize {
+    if kept.len() != FLAGGED_SIZE as usize + HEARD_SIZE as usize * proposers as usize {
         return false;
     }
     if !is_flag(kept, 0) {

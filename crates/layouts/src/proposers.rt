@@ -2,6 +2,7 @@
 ghost use mathlib.Core.Path.{_≡_};
 ghost use lib.Seq.{sets};
 ghost use Rattle.layouts.specs.Layout.{isProposer, proposerAt, proposerBytes};
+use crate::fields::SET_SIZE;
 use crate::fields::acceptors_at;
 use crate::fields::flag_at;
 use crate::fields::is_flag;
@@ -14,18 +15,35 @@ use crate::fields::set_at;
 use crate::fields::sizes_of;
 use model::Proposer;
 
+// Where a field begins after the two flags, and the length of all.
+const BUFFERED: u16 = 2;
+
+const PROPOSED: u16 = BUFFERED + SET_SIZE;
+
+const GATHERED: u16 = PROPOSED + SET_SIZE;
+
+const NUMBER: u16 = GATHERED + SET_SIZE;
+
+const ACKNOWLEDGED: u16 = NUMBER + 2;
+
+const REJECTED: u16 = ACKNOWLEDGED + 1;
+
+const DECIDED: u16 = REJECTED + 1;
+
+const PROPOSER_SIZE: u16 = DECIDED + SET_SIZE;
+
 pub fn proposer_at(kept: &[u8]) -> Proposer
     ensures { λ r. ⌜ r ≡ proposerAt (now (kept .entry)) ⌝ }
 {
     let alive = flag_at(kept, 0);
     let active = flag_at(kept, 1);
-    let buffered = set_at(kept, 2);
-    let proposed = set_at(kept, 10);
-    let gathered = set_at(kept, 18);
-    let number = number_at(kept, 26);
-    let acknowledged = acceptors_at(kept, 28);
-    let rejected = acceptors_at(kept, 29);
-    let decided = set_at(kept, 30);
+    let buffered = set_at(kept, BUFFERED);
+    let proposed = set_at(kept, PROPOSED);
+    let gathered = set_at(kept, GATHERED);
+    let number = number_at(kept, NUMBER);
+    let acknowledged = acceptors_at(kept, ACKNOWLEDGED);
+    let rejected = acceptors_at(kept, REJECTED);
+    let decided = set_at(kept, DECIDED);
     Proposer {
         alive,
         active,
@@ -44,13 +62,13 @@ pub fn put_proposer(kept: &mut [u8], p: Proposer)
 {
     put_flag(kept, 0, p.alive);
     put_flag(kept, 1, p.active);
-    put_set(kept, 2, p.buffered);
-    put_set(kept, 10, p.proposed);
-    put_set(kept, 18, p.gathered);
-    put_number(kept, 26, p.number);
-    put_acceptors(kept, 28, p.acknowledged);
-    put_acceptors(kept, 29, p.rejected);
-    put_set(kept, 30, p.decided);
+    put_set(kept, BUFFERED, p.buffered);
+    put_set(kept, PROPOSED, p.proposed);
+    put_set(kept, GATHERED, p.gathered);
+    put_number(kept, NUMBER, p.number);
+    put_acceptors(kept, ACKNOWLEDGED, p.acknowledged);
+    put_acceptors(kept, REJECTED, p.rejected);
+    put_set(kept, DECIDED, p.decided);
 }
 
 // Whether the bytes are a proposer's record of a run of so many acceptors and scans.
@@ -61,7 +79,7 @@ pub fn is_proposer(kept: &[u8], acceptors: u64, scans: u64) -> bool
     if !z.in_range() {
         return false;
     }
-    if kept.len() != 38 {
+    if kept.len() != PROPOSER_SIZE as usize {
         return false;
     }
     if !is_flag(kept, 0) {

@@ -10,8 +10,8 @@ use lib.Dec.{eqb}
 use lib.ListN.{length, getD, set, take, replicate, replicate-append-replicate, length-set}
 use lib.Seq.{take-at, set-append-left}
 use borrow.Author.Tests.{eqb-true, eq-eqb, ltb-true}
-use Rattle.sets.specs.Scans.{empty}
-use Rattle.sets.specs.Acceptors.{none}
+use Rattle.sets.specs.Scans.{ofFirstWord}
+use Rattle.sets.proofs.Computing.{openSets}
 use Rattle.model.specs.declared.Acceptor.{Acceptor}
 use Rattle.model.specs.declared.Heard.{Heard}
 use Rattle.model.specs.declared.Learner.{Learner}
@@ -24,7 +24,7 @@ use Rattle.model.specs.Network.{Worn}
 use Rattle.choice.proofs.Tests.{if-ind, test-passed}
 use Rattle.model.proofs.Lists.{replicate-all}
 use Rattle.model.proofs.RuleLaws.{listening-heard}
-use Rattle.layouts.specs.Layout.{sizesOf, wordAt, setAt, flagged, isAcceptor, acceptorAt, acceptorBytes, proposerAt, heardPlace, heardAt, placesAt, isLearner, learnerAt, learnerBytes}
+use Rattle.layouts.specs.Layout.{sizesOf, wordAt, setSize, setAt, flagged, flaggedSize, isAcceptor, acceptorAt, acceptorBytes, proposerAt, proposerSize, heardSize, heardPlace, heardAt, placesAt, isLearner, learnerAt, learnerBytes}
 use Rattle.layouts.proofs.Parts.{learner-sizes, few-proposers}
 use Rattle.layouts.proofs.Places.{length-places-at, eight-left, eight-listening}
 use Rattle.layouts.proofs.LayoutLaws.{acceptor-back, ownPlaces, learner-back}
@@ -127,14 +127,14 @@ module _ (n : ℕ) (bytes : List ℕ) (z : ZerosFrom n bytes) where
   word-zero (suc b) k h = rw (word-zero b (suc k) (omega arith), z k h)
 
   heard-zero : (k : ℕ) → n ≤ k → heardAt bytes k ≡ unheard
-  unfolding heardAt empty none
+  unfolding heardAt openSets
   heard-zero k h =
       let e₁ = word-zero 2 k h in
       let e₂ = word-zero 8 (k + 2) (omega arith) in
-      let e₃ = z (k + 10) (omega arith) in
-      λ d. record { number = e₁ d; set = record { bits = e₂ d }; acceptors = record { bits = e₃ d } }
+      let e₃ = z (k + (2 + setSize)) (omega arith) in
+      λ d. record { number = e₁ d; set = ofFirstWord (e₂ d); acceptors = record { bits = e₃ d } }
 
-  places-zero : n ≤ 9 → (m : ℕ) → placesAt m bytes ≡ replicate m unheard
+  places-zero : n ≤ flaggedSize → (m : ℕ) → placesAt m bytes ≡ replicate m unheard
   unfolding placesAt
   places-zero h zero = refl
   places-zero h (suc m) =
@@ -142,7 +142,7 @@ module _ (n : ℕ) (bytes : List ℕ) (z : ZerosFrom n bytes) where
       rw (places-zero h m, heard-zero (heardPlace m) (omega arith)) (replicate-append-replicate m 1 unheard ∙ ap (λ (k : ℕ). replicate k unheard) e)
 
   -- a learner's record that reads zeros past its learnt set: nothing is heard
-  nothing-heard : n ≤ 9 → (p : ℕ) → learnerAt p bytes .heard ≡ replicate 8 unheard
+  nothing-heard : n ≤ flaggedSize → (p : ℕ) → learnerAt p bytes .heard ≡ replicate 8 unheard
   unfolding learnerAt
   nothing-heard h p =
       let e : min p 8 + (8 - min p 8) ≡ 8 = omega (arith, min-le-right p 8) in
@@ -157,21 +157,21 @@ begun-zeros : (n : ℕ) → ZerosFrom 1 (begun n)
 begun-zeros n zero h = absurd (omega arith)
 begun-zeros n (suc k) h = zeros-read n k
 
-pub proposer-begun : proposerAt (begun 37) ≡ freshProposer
-unfolding proposerAt wordAt empty none
+pub proposer-begun : proposerAt (begun (proposerSize - 1)) ≡ freshProposer
+unfolding proposerAt wordAt openSets
 proposer-begun = refl
 
-pub acceptor-begun : acceptorAt (begun 8) ≡ freshAcceptor
-unfolding acceptorAt wordAt empty
+pub acceptor-begun : acceptorAt (begun setSize) ≡ freshAcceptor
+unfolding acceptorAt wordAt openSets
 acceptor-begun = refl
 
-pub learner-begun : (p : ℕ) → learnerAt p (begun (8 + 11 * p)) ≡ freshLearner
-unfolding learnerAt empty
+pub learner-begun : (p : ℕ) → learnerAt p (begun (setSize + heardSize * p)) ≡ freshLearner
+unfolding learnerAt openSets
 learner-begun p =
-    let n = 8 + 11 * p in
+    let n = setSize + heardSize * p in
     let w = word-zero 1 (begun n) (begun-zeros n) 8 1 (omega arith) in
     let q = nothing-heard 1 (begun n) (begun-zeros n) (omega arith) p in
-    λ d. record { alive = true; learnt = record { bits = w d }; heard = q d }
+    λ d. record { alive = true; learnt = ofFirstWord (w d); heard = q d }
 
 -- ---- the first n bytes, then m zeros
 
@@ -197,9 +197,9 @@ module _ (m : ℕ) where
 pub alone-worn : (p : ℕ) (kept : List ℕ) → Worn (learnerAt p kept) (learnerAt p (learntAlone p kept))
 unfolding learnerAt
 alone-worn p kept =
-    let w = first-word (11 * p) 9 kept 8 1 (omega arith) in
-    let q = nothing-heard 9 (learntAlone p kept) (rest-read (11 * p) 9 kept) (omega arith) p in
+    let w = first-word (heardSize * p) flaggedSize kept 8 1 (omega arith) in
+    let q = nothing-heard flaggedSize (learntAlone p kept) (rest-read (heardSize * p) flaggedSize kept) (omega arith) p in
     record {
-      learnt = λ d. record { bits = w d };
+      learnt = λ d. ofFirstWord (w d);
       heard = λ i. inr (ap (λ (hs : List Heard). getD hs i unheard) q ∙ replicate-all (λ (h : Heard). h ≡ unheard) 8 unheard unheard refl refl i);
     }

@@ -9,7 +9,7 @@ use Rattle.shelf.proofs.ShelfLaws.{written-later}
 use Rattle.model.specs.Network as net
 use Rattle.model.specs.NetworkSafety as network
 use Rattle.model.proofs.NetworkSafety as network′
-use Rattle.layouts.specs.Layout.{setAt, acceptorAt, proposerAt, learnerAt}
+use Rattle.layouts.specs.Layout.{setSize, setAt, acceptorAt, proposerAt, learnerAt}
 use Rattle.yazhmandu.specs.Calls.{whereIsBytes}
 use Rattle.stores.specs.Stores.{Stores, newsOf, History}
 use Rattle.stores.specs.Safety.{Given, learnt, decided, Accepted, MostAccepted, Safe}
@@ -54,6 +54,6 @@ module _ {p a s : ℕ} (h : History p a s) where
         received = λ i k v x m. let r = n .received i k v (given p x) m in record { when = r .when; before = r .before; event = r .event };
         chosen = λ i v x. elim (n .chosen i v (given p x)) [ inl e ↦ inl e | inr y ↦ inr (most y) ];
         foundLater = λ i j u v eu ev x y b table c tag scan place time e.
-            let w = written-later (readTable table) s tag c b (network′.given-fits history j (setAt v 0) (given p y)) (rw (eq-eqb _ 8 eu) at e) in
-            rw (eq-eqb _ 8 ev) (record { scan = w .number; place = w .shelf; time = w .time; shown = w .shown; later = w .later });
+            let w = written-later (readTable table) s tag c b (network′.given-fits history j (setAt v 0) (given p y)) (rw (eq-eqb _ setSize eu) at e) in
+            rw (eq-eqb _ setSize ev) (record { scan = w .number; place = w .shelf; time = w .time; shown = w .shown; later = w .later });
       }

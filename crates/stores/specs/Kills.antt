@@ -5,7 +5,7 @@ use mathlib.Core.List.{List}
 use Prim.Native.Nat.{ℕ, suc}
 use Rattle.sets.specs.declared.scans.Scans.{Scans}
 use Rattle.model.specs.Network.{Net, SendsOnly, Same, Nothing}
-use Rattle.layouts.specs.Layout.{setAt}
+use Rattle.layouts.specs.Layout.{setAt, decidedPlace}
 use Rattle.stores.specs.Stores.{Stores, Call, Begun, History}
 use Rattle.stores.specs.Safety.{Given, Safe}
 
@@ -67,7 +67,7 @@ pub record Lives (p a s : ℕ) : Type 1 where
 -- a set that a party shows: learnt or decided in its record now, and in the one that is kept
 pub data Shows (v : Servers) (u : Scans) : Type 0 where
   learnt : (l : ℕ) → setAt (v .learner l .now) 1 ≡ u → setAt (v .learner l .kept) 1 ≡ u → Shows v u
-  decided : (i : ℕ) → setAt (v .proposer i .now) 30 ≡ u → setAt (v .proposer i .kept) 30 ≡ u → Shows v u
+  decided : (i : ℕ) → setAt (v .proposer i .now) decidedPlace ≡ u → setAt (v .proposer i .kept) decidedPlace ≡ u → Shows v u
 
 -- what is kept is a history of calls, of which demand 3 holds, and what is shown stands in it
 pub record Relies {p a s : ℕ} (h : Lives p a s) : Type 1 where

@@ -14,14 +14,14 @@ use Rattle.scan_table.specs.Table.{readTable, tableAnswer}
 use Rattle.scan_table.specs.declared.TableRead.the-variants as table-read
 use Rattle.shelf.specs.declared.Shelf.the-variants.{Shown}
 use Rattle.model.specs.Safety.{ShowsBy}
-use Rattle.layouts.specs.Layout.{setAt}
+use Rattle.layouts.specs.Layout.{setSize, setAt, decidedPlace}
 use Rattle.yazhmandu.specs.Calls.{whereIsBytes}
 use Rattle.stores.specs.Stores.{Stores, newsOf, History}
 
 -- a learner's record has the set as learnt, or a proposer's as decided
 pub data Given (t : Stores) (v : Scans) : Type 0 where
   learnt : (l : ℕ) → setAt (t .learner l) 1 ≡ v → Given t v
-  decided : (i : ℕ) → setAt (t .proposer i) 30 ≡ v → Given t v
+  decided : (i : ℕ) → setAt (t .proposer i) decidedPlace ≡ v → Given t v
 
 module _ {p a s : ℕ} (h : History p a s) where
   -- before the moment i the scan k was received
@@ -54,7 +54,7 @@ module _ {p a s : ℕ} (h : History p a s) where
     -- and, if it is not empty, a majority of acceptors accepted exactly this set
     pub chosen : (i : ℕ) (v : Scans) → Given (h .stores i) v → (v ≡ empty) ⊎ MostAccepted i v
     -- over one written scan table of s scans, a tag that ymd_where_is finds in the smaller set it finds in the larger, at a scan time no earlier
-    pub foundLater : (i j : ℕ) (u v : List ℕ) → length u ≡ 8 → length v ≡ 8
+    pub foundLater : (i j : ℕ) (u v : List ℕ) → length u ≡ setSize → length v ≡ setSize
         → Given (h .stores i) (setAt u 0) → Given (h .stores j) (setAt v 0) → setAt u 0 ⊆ setAt v 0
         → (table : List ℕ) → tableAnswer (readTable table) ≡ table-read.Scans s → (tag : ℕ) (scan : ScanId) (place time : ℕ)
         → whereIsBytes table u tag ≡ Shown scan place time → ShowsBy time (whereIsBytes table v tag)

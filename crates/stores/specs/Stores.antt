@@ -1,7 +1,7 @@
 -- Site servers: each party's record as bytes, changed by the calls alone; what is sent to whom after which call; and histories of calls. A message sent comes as often as the network likes, in any order, or never.
 use mathlib.Core.Path.{_≡_}
 use mathlib.Core.List.{List, _∷_, _++_}
-use Prim.Native.Nat.{ℕ, suc, _+_, _*_, _<_}
+use Prim.Native.Nat.{ℕ, suc, _+_, _-_, _*_, _<_}
 use lib.ListN.{getD, take, replicate}
 use Rattle.sets.specs.Scans.{_∈_}
 use Rattle.sets.specs.declared.scans.Scans.{Scans}
@@ -10,7 +10,7 @@ use Rattle.model.specs.Records.{internal, proposal, acknowledgement, rejection,
 use Rattle.model.specs.Rules.{proposeNo, proposing, refineNo, refining, decideNo, deciding}
 use Rattle.model.specs.Table.{Internal, Proposal, Acknowledgement, Rejection, Announcement}
 use Rattle.model.specs.Network.{Net, Comes, SendsOnly, News, Changed, Same, Nothing}
-use Rattle.layouts.specs.Layout.{setAt, numberAt}
+use Rattle.layouts.specs.Layout.{setSize, setAt, numberAt, flaggedSize, proposedPlace, numberPlace, proposerSize, heardSize}
 use Rattle.yazhmandu.specs.Calls.{proposalNo, answerRecord, answerReply, bufferNo, bufferRecord, acknowledgedRecord, rejectedRecord, callRecord, hearRecord}
 
 -- the record of each party by its number, as bytes, and the messages that were sent
@@ -22,7 +22,7 @@ zeros n = replicate n 0
 
 -- ---- a proposer
 
--- what a call leaves of the record of the proposer i; the set of a message goes to the call as 8 bytes
+-- what a call leaves of the record of the proposer i; the set of a message goes to the call as its bytes
 pub data ProposerCall (a s : ℕ) (t : Stores) (i : ℕ) (kept : List ℕ) : List ℕ → Type 0 where
   -- ymd_buffer, of received scans
   receives : (set : List ℕ) → ProposerCall a s t i kept (bufferRecord a s kept set)
@@ -52,7 +52,7 @@ Gets again k = ⊥
 
 -- what it may send then: to acceptors, at any time, the number and the set proposed that stand in the record; to proposers what it received
 pub data ProposerSends {a s : ℕ} {t : Stores} {i : ℕ} {kept left : List ℕ} (c : ProposerCall a s t i kept left) : Message → Type 0 where
-  asks : (to : ℕ) → ProposerSends c (Proposal i (numberAt left 26) (setAt left 10) to)
+  asks : (to : ℕ) → ProposerSends c (Proposal i (numberAt left numberPlace) (setAt left proposedPlace) to)
   tells : (v : Scans) (to : ℕ) → ((k : ℕ) → k ∈ v → Gets c k) → ProposerSends c (Internal v to)
 
 -- ---- an acceptor
@@ -82,9 +82,9 @@ Takes {s} {j = j} {kept} (answers m set old c e) = Accepting j m (proposalNo s k
 
 -- ---- a learner: it sends nothing
 
--- what it learnt and nothing heard: the first 9 bytes of its record, then zeros
+-- what it learnt and nothing heard: the flag and the set that its record begins with, then zeros
 abbrev pub learntAlone : ℕ → List ℕ → List ℕ
-learntAlone p kept = take 9 kept ++ zeros (11 * p)
+learntAlone p kept = take flaggedSize kept ++ zeros (heardSize * p)
 
 pub data LearnerCall (p a s : ℕ) (t : Stores) (l : ℕ) (kept : List ℕ) : List ℕ → Type 0 where
   -- ymd_hear, of an acknowledgement to the learner l
@@ -135,9 +135,9 @@ abbrev pub begun : ℕ → List ℕ
 begun n = 1 ∷ zeros n
 
 pub record Begun (p : ℕ) (t : Stores) : Type 0 where
-  pub proposers : (i : ℕ) → t .proposer i ≡ begun 37
-  pub acceptors : (j : ℕ) → t .acceptor j ≡ begun 8
-  pub learners : (l : ℕ) → t .learner l ≡ begun (8 + 11 * p)
+  pub proposers : (i : ℕ) → t .proposer i ≡ begun (proposerSize - 1)
+  pub acceptors : (j : ℕ) → t .acceptor j ≡ begun setSize
+  pub learners : (l : ℕ) → t .learner l ≡ begun (setSize + heardSize * p)
   pub nothingSent : (m : Message) → t .sent m → ⊥
 
 -- calls of any parties one after the other; call i meets the stores i

@@ -24,7 +24,7 @@ use Rattle.shelf.proofs.ShelfLaws.{written-later, written-refusals}
 use Rattle.model.specs.Safety.{moment, Given, ShowsBy}
 use Rattle.model.specs.declared.Event.{Event}
 use Rattle.model.proofs.InRange.{given-fits}
-use Rattle.layouts.specs.Layout.{setAt}
+use Rattle.layouts.specs.Layout.{setSize, setAt}
 use Rattle.yazhmandu.specs.Calls.{unasked, whereIsBytes}
 use Rattle.yazhmandu.specs.Asking.{WhereIsCall, ShowsScan, timeIn}
 
@@ -49,18 +49,18 @@ module _ (table set : List ℕ) (tag : ℕ) where
   -- the call refuses with a number that the table's reader gives, and 3 is one of them
   pub where-bytes-refusals : (r : Refusal) → whereIsBytes table set tag ≡ shelf.Refused r → ReadRefusal (r .no)
   unfolding whereIsBytes
-  where-bytes-refusals r e = go (eqb (length set) 8) e
+  where-bytes-refusals r e = go (eqb (length set) setSize) e
     where
-      go : (eight : Bool) → (if eight then whereIsWritten (readTable table) (setAt set 0) tag else unasked (readTable table)) ≡ shelf.Refused r → ReadRefusal (r .no)
+      go : (whole : Bool) → (if whole then whereIsWritten (readTable table) (setAt set 0) tag else unasked (readTable table)) ≡ shelf.Refused r → ReadRefusal (r .no)
       go true h = written-refusals table (setAt set 0) tag r h
       go false h = unasked-refuses table h
 
   -- what it shows is what the question on the written form shows
   bytes-shown : {scan : ScanId} {place time : ℕ} → whereIsBytes table set tag ≡ shelf.Shown scan place time → whereIsWritten (readTable table) (setAt set 0) tag ≡ shelf.Shown scan place time
   unfolding whereIsBytes
-  bytes-shown {scan} {place} {time} e = go (eqb (length set) 8) e
+  bytes-shown {scan} {place} {time} e = go (eqb (length set) setSize) e
     where
-      go : (eight : Bool) → (if eight then whereIsWritten (readTable table) (setAt set 0) tag else unasked (readTable table)) ≡ shelf.Shown scan place time
+      go : (whole : Bool) → (if whole then whereIsWritten (readTable table) (setAt set 0) tag else unasked (readTable table)) ≡ shelf.Shown scan place time
           → whereIsWritten (readTable table) (setAt set 0) tag ≡ shelf.Shown scan place time
       go true h = h
       go false h = absurd (unasked-shown (readTable table) h)
@@ -75,15 +75,15 @@ not-zero (inr (inr (inr (inl p)))) e = omega arith
 not-zero (inr (inr (inr (inr (inl p))))) e = omega arith
 not-zero (inr (inr (inr (inr (inr p))))) e = omega arith
 
--- a table of the run's size, 8 bytes of a set that the run has learnt or decided, and bytes of any set within it
+-- a table of the run's size, the bytes of a set that the run has learnt or decided, and bytes of any set within it
 module _ (z : Sizes) (es : List Event) (i : ℕ) (table small large : List ℕ) (tag : ℕ)
-    (size : tableAnswer (readTable table) ≡ read.Scans (z .scans)) (eight : length large ≡ 8) (given : Given (moment z es i) (setAt large 0)) (within : setAt small 0 ⊆ setAt large 0) where
+    (size : tableAnswer (readTable table) ≡ read.Scans (z .scans)) (whole : length large ≡ setSize) (given : Given (moment z es i) (setAt large 0)) (within : setAt small 0 ⊆ setAt large 0) where
   -- where the smaller set shows a scan, so does the larger, at a time no earlier
   pub bytes-later : {scan : ScanId} {place time : ℕ} → whereIsBytes table small tag ≡ shelf.Shown scan place time → ShowsBy time (whereIsBytes table large tag)
   unfolding whereIsBytes
   bytes-later e =
       let w = written-later (readTable table) (z .scans) tag size within (given-fits z es i (setAt large 0) given) (bytes-shown table small tag e) in
-      rw (eq-eqb (length large) 8 eight) (record { scan = w .number; place = w .shelf; time = w .time; shown = w .shown; later = w .later })
+      rw (eq-eqb (length large) setSize whole) (record { scan = w .number; place = w .shelf; time = w .time; shown = w .shown; later = w .later })
 
   -- so it is with what two calls give, whatever stood where they leave it
   pub asked-later : (old old′ found found′ : List ℕ) (r r′ : ℕ) → WhereIsCall table small tag old r found → WhereIsCall table large tag old′ r′ found′

@@ -13,7 +13,7 @@ use Rattle.choice.specs.Tests.{_unless_, _⨾_, ok}
 use Rattle.model.specs.Rules.{accepts, answering, buffering, isCurrent, acknowledging, rejecting, learns, listening}
 use Rattle.model.specs.Table.{Announcement}
 use Rattle.model.specs.declared.Proposer.{Proposer}
-use Rattle.layouts.specs.Layout.{setAt, isSet, isAnswer, flagged, isAcceptor, acceptorAt, acceptorBytes, isProposer, proposerAt, proposerBytes, isLearner, learnerAt, learnerBytes}
+use Rattle.layouts.specs.Layout.{setSize, setAt, isSet, isAnswer, flagged, isAcceptor, acceptorAt, acceptorBytes, isProposer, proposerAt, proposerBytes, isLearner, learnerAt, learnerBytes}
 
 -- lent bytes after a call that gave a number: new ones where it was not refused
 abbrev pub unlessRefused : ℕ → List ℕ → List ℕ → List ℕ
@@ -21,14 +21,14 @@ unlessRefused n new old = if eqb n 0 then new else old
 
 -- ---- the shelf question
 
--- a set that is not 8 bytes is not within S: 3, after the table's own refusals
+-- a set of another length is not within S: 3, after the table's own refusals
 unfoldable pub unasked : FormRead ℕ → Shelf
 unasked (readAs n fields) = refusedShelf 3
 unasked (unread r) = shelf.Refused r
 
 unfoldable pub whereIsBytes : List ℕ → List ℕ → ℕ → Shelf
 whereIsBytes table set tag =
-    if eqb (length set) 8
+    if eqb (length set) setSize
     then whereIsWritten (readTable table) (setAt set 0) tag
     else unasked (readTable table)
 

@@ -2,6 +2,7 @@
 ghost use mathlib.Core.Path.{_≡_};
 ghost use Rattle.shelf.specs.Shelf.{askedNo, shelfNumbers};
 ghost use Rattle.yazhmandu.specs.Calls.{whereIsBytes};
+use layouts::fields::SET_SIZE;
 use layouts::fields::set_at;
 use numbers::Refusal;
 use scan_table::TableRead;
@@ -11,7 +12,7 @@ use shelf::Shelf;
 fn answer_of(table: &[u8], set: &[u8], tag: u64) -> Shelf
     ensures { λ r. ⌜ r ≡ whereIsBytes (now (table .entry)) (now (set .entry)) tag ⌝ }
 {
-    if set.len() == 8 {
+    if set.len() == SET_SIZE as usize {
         return shelf::where_is_written(table, set_at(set, 0), tag);
     }
     let checked = scan_table::check_table(table);

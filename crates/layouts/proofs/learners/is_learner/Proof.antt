@@ -21,6 +21,12 @@ returns c =
     let e = failed (sizes-tested (s .args .proposers) (s .args .acceptors) (s .args .scans) z (c .before .in-range .ensures)) (c .if1 .taken) in
     simp e
 
+cast-if2 : tie.Need-cast-if2
+cast-if2 c = search needs
+
+cast-if2-2 : tie.Need-cast-if2-2
+cast-if2-2 c = search needs
+
 mul-if2 : tie.Need-mul-if2
 mul-if2 c =
     let s = c .before .before .before .before in
@@ -79,6 +85,8 @@ is-learner-spec =
     sizes-of-requires
     in-range-requires
     returns
+    cast-if2
+    cast-if2-2
     mul-if2
     add-if2
     returns-2

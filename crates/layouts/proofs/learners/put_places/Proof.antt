@@ -10,13 +10,13 @@ use Rattle.sets.specs.Acceptors.{none}
 use Rattle.sets.specs.Scans.{empty}
 use Rattle.model.specs.Records.{unheard}
 use Rattle.model.proofs.Places.{eight-places}
-use Rattle.layouts.specs.Layout.{heardPlace, heardBytes, placesBytes}
+use Rattle.layouts.specs.Layout.{flaggedSize, heardPlace, heardBytes, placesBytes}
 use Rattle.layouts.proofs.Places.{put-place}
 use Rattle.layouts.proofs.learners.put_places.Statement.{statement}
 use Rattle.layouts.proofs.learners.put_places.Tie as tie
 
 abbrev Inv-loop : tie.InvT-loop
-Inv-loop kept₀ count l i₀ kept i = (i ≤ count) × (length kept ≡ length kept₀) × (kept ≡ sets kept₀ 9 (placesBytes (take i (l .heard))))
+Inv-loop kept₀ count l i₀ kept i = (i ≤ count) × (length kept ≡ length kept₀) × (kept ≡ sets kept₀ flaggedSize (placesBytes (take i (l .heard))))
 
 abbrev μ-loop : tie.MeasureT-loop
 μ-loop kept₀ count l i₀ kept i = count - i

@@ -7,6 +7,9 @@ use Rattle.yazhmandu.proofs.Unasked.{unasked-table, unasked-refused}
 use Rattle.yazhmandu.proofs.shelf_call.answer_of.Statement.{statement}
 use Rattle.yazhmandu.proofs.shelf_call.answer_of.Tie as tie
 
+cast-if1 : tie.Need-cast-if1
+cast-if1 c = search needs
+
 set-at-requires : tie.Need-set-at-requires
 set-at-requires c κs = search needs
 
@@ -44,6 +47,7 @@ pub answer-of-spec : {M : Type 1} → statement M
 answer-of-spec =
     tie.close
     (tie.spec
+    cast-if1
     set-at-requires
     where-is-written-requires
     returns

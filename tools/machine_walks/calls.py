@@ -62,23 +62,23 @@ w.write()
 w = Walk(Function(
     'calls', 'machine_run', comment=COMMENT % 'machine_run', structs=RECORDS,
     params=[value('Sizes', 'z')] + LENT + [shared_slice_of('u64', 'events'), slice_of('u64', 'log'), value('u16', 'n')],
-    locals=['bool'] * 6 + ['u8', 'usize'] + ['usize'] * 4 + lent_on('imm') + ['unit'] + lent_on('mut') + [('u64', 'mut')],
+    locals=['bool'] * 5 + ['u8', 'u8', 'usize'] + ['usize'] * 4 + lent_on('imm') + ['unit'] + lent_on('mut') + [('u64', 'mut')],
     temporaries=17,
     result=('u8', 'k'),
     after=fields_of('r') + ['events', '(r .log)'],
     says=tupled(['run-refused z ps acs ls t events log n'] + ['ends .' + x for x in FIELDS + ['log']]),
-    definitions=TESTS + [('some', 'Bool', 'enoughOf n₄ n₅ n'), ('k', 'ℕ', 'soundRunOf all-sized p a l m some'), ('i', 'ℕ', 'turnsOf k n'), ('r', 'Ran', 'driven z ps acs ls t events log i')],
+    definitions=TESTS + [('counted', 'ℕ', 'eventsNo n₄ n₅ n'), ('k', 'ℕ', 'soundRunOf all-sized p a l m counted'), ('i', 'ℕ', 'turnsOf k n'), ('r', 'Ran', 'driven z ps acs ls t events log i')],
     facts=[('fitting', 'Drives z ps acs ls t events log i', 'run-sound z ps acs ls t events log n'),
            ('ends', 'Ends r (afterRun z (lent-as ps acs ls t) events n log) (logAfterRun z (lent-as ps acs ls t) events n log)', 'run-left z ps acs ls t events log n')],
     uses=(USES + '''use Rattle.machine.specs.Running.{Ran, driven, Drives}
-use Rattle.machine.specs.Calls.{lent as lent-as, lengthsAre, enoughOf, soundRunOf, turnsOf, afterRun, logAfterRun}
+use Rattle.machine.specs.Calls.{lent as lent-as, lengthsAre, eventsNo, soundRunOf, turnsOf, afterRun, logAfterRun}
 ''', '''use Rattle.machine.proofs.RunLaws.{Ends}
 use Rattle.machine.proofs.CallTests.{run-refused, run-sound, run-left}
 ''')))
 test_records(w, 9, 17, 21)
 w.length(4, 17)
 w.length(5, 20)
-w.call(('calls', 'enough'), [17, 20, 8], 14, 'bool', 'some')
+w.call(('calls', 'events_no'), [17, 20, 8], 14, 'u8', 'counted')
 w.cut()
 w.call(('calls', 'run_no'), [9, 10, 11, 12, 13, 14], 15, 'u8', 'k')
 w.call(('calls', 'count_if'), [15, 8], 16, 'usize', 'i')

@@ -90,23 +90,22 @@ f = Own(
 ''',
     structs=RECORDS,
     params=[value('Sizes', 'z'), shared_slice_of('u64', 'events'), slice_of('u64', 'log'), value('u16', 'n')],
-    locals=['bool', 'u8', 'usize', 'usize'] + [x for k, t, n, l, copy in arrays for x in (t, (t, n))] + ['usize', 'usize', 'unit', ('Message', 'mut', 512)] + [(t, 'mut', n) for k, t, n, l, x in arrays] + [('u64', 'mut')],
+    locals=['u8', 'u8', 'usize', 'usize'] + [x for k, t, n, l, copy in arrays for x in (t, (t, n))] + ['usize', 'usize', 'unit', ('Message', 'mut', 512)] + [(t, 'mut', n) for k, t, n, l, x in arrays] + [('u64', 'mut')],
     temporaries=17,
     result=('u8', 'k'),
     after=['events', '(done′ .log)'],
     says='(refl, whole-run-log %s)' % from_fresh,
     definitions=[
-        ('ample', 'Bool', 'enoughOf n₀ n₁ n'), ('k', 'ℕ', 'wholeRunNo z events n log'), ('turns', 'ℕ', 'turnsOf k n'), ('mn', 'ℕ', 'turnsOf k (z .slots)'),
+        ('counted', 'ℕ', 'eventsNo n₀ n₁ n'), ('k', 'ℕ', 'wholeRunNo z events n log'), ('turns', 'ℕ', 'turnsOf k n'), ('mn', 'ℕ', 'turnsOf k (z .slots)'),
         ] + [(l, 'List ' + t, 'replicate %d %s' % (n, x)) for k, t, n, l, x in arrays] + [
         ('t′', 'List Message', 'filled mn freeSlot t₀'), ('done′', 'Ran', 'driven z ps₀ acs₀ ls₀ t′ events log turns')],
     facts=[('long' + sub(2 + i), 'length %s ≡ %d' % (l, n), 'length-replicate %d %s' % (n, x)) for i, (k, t, n, l, x) in enumerate(arrays)]
     + [('room' + sub(2 + i), 'Room %s.the-row %d' % (alias[t], n), '(lit< tt, lit< tt)') for i, (k, t, n, l, x) in enumerate(arrays)]
     + [('in-m', 'mn ≤ length t₀', 'subst (λ (m : ℕ). mn ≤ m) (sym long₅) (slots-few z events n log)'), ('drives', 'Drives z ps₀ acs₀ ls₀ t′ events log turns', 'whole-run-drives ' + from_fresh)],
-    uses=('''use mathlib.Core.Bool.{Bool}
-use Rattle.model.specs.Records.{freshProposer, freshAcceptor, freshLearner, freeSlot}
+    uses=('''use Rattle.model.specs.Records.{freshProposer, freshAcceptor, freshLearner, freeSlot}
 use Rattle.machine.specs.Slots.{takenSlot}
 use Rattle.machine.specs.Running.{Ran, driven, Drives}
-use Rattle.machine.specs.Calls.{enoughOf, wholeRunNo, turnsOf}
+use Rattle.machine.specs.Calls.{eventsNo, wholeRunNo, turnsOf}
 ''', '''use Rattle.machine.proofs.Filling.{filled}
 use Rattle.machine.proofs.Longer.{whole-run-first, whole-run-drives, whole-run-log, slots-few}
 '''))
@@ -119,7 +118,7 @@ def calls(g):
 w = WalkOwn(f)
 w.length(0, 17)
 w.length(1, 18)
-w.call(calls('enough'), [17, 18, 4], 5, 'bool', 'ample')
+w.call(calls('events_no'), [17, 18, 4], 5, 'u8', 'counted')
 w.call(calls('whole_run_no'), [1, 5], 6, 'u8', 'k')
 w.cut()
 w.call(calls('count_if'), [6, 4], 7, 'usize', 'turns')

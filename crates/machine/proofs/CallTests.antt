@@ -16,7 +16,7 @@ use Rattle.model.specs.declared.Learner.{Learner}
 use Rattle.model.specs.declared.Message.{Message}
 use Rattle.model.specs.declared.Event.{Event}
 use Rattle.machine.specs.Running.{driven, Drives, timesOf, Repeats}
-use Rattle.machine.specs.Calls.{lent, lengthsAre, soundOf, turnsOf, enoughOf, soundRunOf, runNo, afterRun, logAfterRun}
+use Rattle.machine.specs.Calls.{lent, lengthsAre, soundOf, turnsOf, eventsNo, soundRunOf, runNo, afterRun, logAfterRun}
 use Rattle.machine.proofs.StepLaws.{Agrees}
 use Rattle.machine.proofs.RunLaws.{Ends, step-repeats, step-once, run-drives, run-ends}
 
@@ -39,7 +39,7 @@ module _ (z : Sizes) (ps : List Proposer) (acs : List Acceptor) (ls : List Learn
   module _ (ns log : List ℕ) (n : ℕ) where
     -- the refusal of a run, by its tests
     abbrev pub runTests : ℕ
-    runTests = soundRunOf sized (all (proposerInRange z) ps) (all (acceptorInRange z) acs) (all (learnerInRange z) ls) (all (messageInRange z) t) (enoughOf (length ns) (length log) n)
+    runTests = soundRunOf sized (all (proposerInRange z) ps) (all (acceptorInRange z) acs) (all (learnerInRange z) ls) (all (messageInRange z) t) (eventsNo (length ns) (length log) n)
 
     pub run-refused : runTests ≡ runNo z (lent ps acs ls t) ns n log
     unfolding recordsInRange lengthsInRange

@@ -5,12 +5,13 @@ use mathlib.Core.List.{List, [], _∷_, _++_}
 use Prim.Native.Nat.{ℕ, zero, suc, _+_, _*_, _-_, _≤_}
 use native.Mathlib.Nat.{not-suc-le-zero}
 use native.Mathlib.Omega.{arith}
-use lib.Dec.{eqb}
+use lib.Dec.{eqb, leb}
 use lib.ListN.{length, getD, set, drop, replicate, length-append, length-set, replicate-append-replicate, List·getD-append}
 use lib.Seq.{set-append-left}
 use borrow.Author.Tests.{not-true}
 use Rattle.choice.specs.Choice.{if_then_else_}
 use Rattle.sizes.specs.Sizes.{sizesInRange}
+use Rattle.sizes.specs.Events.{mostEvents}
 use Rattle.sizes.proofs.SizeLaws.{bounds}
 use Rattle.sizes.specs.declared.Sizes.{Sizes}
 use Rattle.model.specs.Records.{fresh, freshProposer, freshAcceptor, freshLearner, freeSlot}
@@ -31,7 +32,7 @@ use Rattle.decisions.specs.Change.{learnerAfter, slotAfter}
 use Rattle.machine.specs.declared.step.Decision.{Decision}
 use Rattle.machine.specs.Stepping.{within, partyOf, decideOf, finishOf, replyOf, Fits, Left, theMessage, stepOf}
 use Rattle.machine.specs.Running.{eventOf, eventsIn, noted, Ran, onward, ranTo, driven, Drives}
-use Rattle.machine.specs.Calls.{logged, hasNumbers, wholeNo, wholeRunNo, logAfterWholeRun, turnsOf}
+use Rattle.machine.specs.Calls.{logged, hasNumbers, wholeRunNo, logAfterWholeRun, turnsOf}
 use Rattle.machine.proofs.Posting.{others-take}
 use Rattle.machine.proofs.Readiness.{proposer-there, acceptor-there, learner-there, slot-there}
 use Rattle.machine.proofs.RunLaws.{driven-ends, in-range-fits, numbers-there}
@@ -206,17 +207,18 @@ first-fits z ps acs ls t h x =
     let m = longer-enough (z .slots) (fresh z .slots) (x .moreSlots) t (fit .1 .1 .1 .1) (x .slots) in
     (h, (p, (a, (l, m))))
 
-module _ (z : Sizes) (ps : List Proposer) (acs : List Acceptor) (ls : List Learner) (t : List Message) (ns : List ℕ) (n : ℕ) (log : List ℕ) (first : sizesInRange z ≡ true → hasNumbers ns n log ≡ true → FreshFirst z ps acs ls t) where
-  whole-run-drives-by : (u v : Bool) → sizesInRange z ≡ u → hasNumbers ns n log ≡ v
-      → Drives z ps acs ls t ns log (if eqb (1 unless u ⨾ 8 unless v ⨾ ok) 0 then n else 0)
-  whole-run-drives-by true true h k some = (first-fits z ps acs ls t h (first h k), numbers-there ns n log k)
-  whole-run-drives-by true false h k some = absurd (not-suc-le-zero some)
-  whole-run-drives-by false v h k some = absurd (not-suc-le-zero some)
+module _ (z : Sizes) (ps : List Proposer) (acs : List Acceptor) (ls : List Learner) (t : List Message) (ns : List ℕ) (n : ℕ) (log : List ℕ) (first : sizesInRange z ≡ true → leb n mostEvents ≡ true → hasNumbers ns n log ≡ true → FreshFirst z ps acs ls t) where
+  whole-run-drives-by : (u w v : Bool) → sizesInRange z ≡ u → leb n mostEvents ≡ w → hasNumbers ns n log ≡ v
+      → Drives z ps acs ls t ns log (if eqb (1 unless u ⨾ 3 unless w ⨾ 8 unless v ⨾ ok) 0 then n else 0)
+  whole-run-drives-by true true true h f k some = (first-fits z ps acs ls t h (first h f k), numbers-there ns n log k)
+  whole-run-drives-by true true false h f k some = absurd (not-suc-le-zero some)
+  whole-run-drives-by true false v h f k some = absurd (not-suc-le-zero some)
+  whole-run-drives-by false w v h f k some = absurd (not-suc-le-zero some)
 
   pub whole-run-drives : Drives z ps acs ls t ns log (if eqb (wholeRunNo z ns n log) 0 then n else 0)
-  whole-run-drives = whole-run-drives-by (sizesInRange z) (hasNumbers ns n log) refl refl
+  whole-run-drives = whole-run-drives-by (sizesInRange z) (leb n mostEvents) (hasNumbers ns n log) refl refl refl
 
-module _ (z : Sizes) (ps : List Proposer) (acs : List Acceptor) (ls : List Learner) (t : List Message) (ns : List ℕ) (n : ℕ) (log : List ℕ) (first : sizesInRange z ≡ true → hasNumbers ns n log ≡ true → FreshFirst z ps acs ls t) where
+module _ (z : Sizes) (ps : List Proposer) (acs : List Acceptor) (ls : List Learner) (t : List Message) (ns : List ℕ) (n : ℕ) (log : List ℕ) (first : sizesInRange z ≡ true → leb n mostEvents ≡ true → hasNumbers ns n log ≡ true → FreshFirst z ps acs ls t) where
   -- all n events
   first-log : sizesInRange z ≡ true → FreshFirst z ps acs ls t → 2 * n ≤ length log → driven z ps acs ls t ns log n .log ≡ logged (answers z (fresh z) (eventsIn ns n)) log
   first-log h x room =
@@ -224,17 +226,18 @@ module _ (z : Sizes) (ps : List Proposer) (acs : List Acceptor) (ls : List Learn
       ∙ ap (λ (r : Ran). r .log) (driven-longer z (fresh z .proposers) (fresh z .acceptors) (fresh z .learners) (fresh z .slots) (fresh-fits z h) ns log (x .moreProposers) (x .moreAcceptors) (x .moreLearners) (x .moreSlots) (x .taken) n)
       ∙ driven-ends z (fresh z .proposers) (fresh z .acceptors) (fresh z .learners) (fresh z .slots) ns log (fresh-in-range z h) n room .log
 
-  whole-run-log-by : (u v : Bool) → sizesInRange z ≡ u → hasNumbers ns n log ≡ v
-      → driven z ps acs ls t ns log (if eqb (1 unless u ⨾ 8 unless v ⨾ ok) 0 then n else 0) .log
-      ≡ (if eqb (1 unless u ⨾ 8 unless v ⨾ ok) 0 then logged (answers z (fresh z) (eventsIn ns n)) log else log)
+  whole-run-log-by : (u w v : Bool) → sizesInRange z ≡ u → leb n mostEvents ≡ w → hasNumbers ns n log ≡ v
+      → driven z ps acs ls t ns log (if eqb (1 unless u ⨾ 3 unless w ⨾ 8 unless v ⨾ ok) 0 then n else 0) .log
+      ≡ (if eqb (1 unless u ⨾ 3 unless w ⨾ 8 unless v ⨾ ok) 0 then logged (answers z (fresh z) (eventsIn ns n)) log else log)
   unfolding ranTo
-  whole-run-log-by true true h k = first-log h (first h k) (numbers-there ns n log k .1)
-  whole-run-log-by true false h k = refl
-  whole-run-log-by false v h k = refl
+  whole-run-log-by true true true h f k = first-log h (first h f k) (numbers-there ns n log k .1)
+  whole-run-log-by true true false h f k = refl
+  whole-run-log-by true false v h f k = refl
+  whole-run-log-by false w v h f k = refl
 
   -- the log after the call of a whole run: of all n events where nothing is refused, and otherwise as it was
   pub whole-run-log : driven z ps acs ls t ns log (if eqb (wholeRunNo z ns n log) 0 then n else 0) .log ≡ logAfterWholeRun z ns n log
-  whole-run-log = whole-run-log-by (sizesInRange z) (hasNumbers ns n log) refl refl
+  whole-run-log = whole-run-log-by (sizesInRange z) (leb n mostEvents) (hasNumbers ns n log) refl refl refl
 
 -- ---- as many records and slots as any run has
 
@@ -274,16 +277,17 @@ most-fresh-first z n x tk h =
 -- ---- the slots of a whole run: where nothing is refused the first M are free, and the others hold a message x
 
 module _ (z : Sizes) (ns : List ℕ) (n : ℕ) (log : List ℕ) where
-  slots-by : (u v : Bool) → sizesInRange z ≡ u → turnsOf (wholeNo u v) (z .slots) ≤ 512
-  slots-by true true h = bounds z h .few-slots
-  slots-by true false h = omega arith
-  slots-by false v h = omega arith
+  slots-by : (u w v : Bool) → sizesInRange z ≡ u → turnsOf (1 unless u ⨾ 3 unless w ⨾ 8 unless v ⨾ ok) (z .slots) ≤ 512
+  slots-by true true true h = bounds z h .few-slots
+  slots-by true true false h = omega arith
+  slots-by true false v h = omega arith
+  slots-by false w v h = omega arith
 
   pub slots-few : turnsOf (wholeRunNo z ns n log) (z .slots) ≤ 512
-  slots-few = slots-by (sizesInRange z) (hasNumbers ns n log) refl
+  slots-few = slots-by (sizesInRange z) (leb n mostEvents) (hasNumbers ns n log) refl
 
-  pub whole-run-first : (m : ℕ) (x : Message) → isTaken x ≡ true → sizesInRange z ≡ true → hasNumbers ns n log ≡ true
+  pub whole-run-first : (m : ℕ) (x : Message) → isTaken x ≡ true → sizesInRange z ≡ true → leb n mostEvents ≡ true → hasNumbers ns n log ≡ true
       → FreshFirst z (replicate 8 freshProposer) (replicate 7 freshAcceptor) (replicate 8 freshLearner) (replicate (turnsOf (wholeRunNo z ns n log) (z .slots)) freeSlot ++ drop (turnsOf (wholeRunNo z ns n log) (z .slots)) (replicate m x))
-  whole-run-first m x tk h k =
+  whole-run-first m x tk h f k =
       subst (λ (s : ℕ). FreshFirst z (replicate 8 freshProposer) (replicate 7 freshAcceptor) (replicate 8 freshLearner) (replicate s freeSlot ++ drop s (replicate m x)))
-      (sym (λ i. turnsOf (wholeNo (h i) (k i)) (z .slots))) (most-fresh-first z m x tk h)
+      (sym (λ i. turnsOf (1 unless h i ⨾ 3 unless f i ⨾ 8 unless k i ⨾ ok) (z .slots))) (most-fresh-first z m x tk h)

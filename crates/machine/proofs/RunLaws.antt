@@ -6,11 +6,12 @@ use Prim.Native.Nat.{ℕ, zero, suc, _+_, _*_, _≤_}
 use native.Mathlib.Nat.{not-suc-le-zero, add-zero}
 use native.Mathlib.Numerals.{add-one}
 use native.Mathlib.Omega.{arith}
-use lib.Dec.{eqb}
+use lib.Dec.{eqb, leb}
 use lib.ListN.{length, set, drop, length-append, length-drop}
 use lib.Seq.{drop-drop}
 use borrow.Author.Tests.{leb-true}
 use Rattle.choice.specs.Choice.{if_then_else_}
+use Rattle.sizes.specs.Events.{mostEvents}
 use Rattle.sizes.specs.declared.Sizes.{Sizes}
 use Rattle.model.specs.Records.{State}
 use Rattle.model.specs.Table.{from}
@@ -164,27 +165,29 @@ pub numbers-there : (ns : List ℕ) (n : ℕ) (log : List ℕ) → hasNumbers ns
 numbers-there ns n log h = search (and-l, and-r, leb-true)
 
 module _ (z : Sizes) (ps : List Proposer) (acs : List Acceptor) (ls : List Learner) (t : List Message) (ns : List ℕ) (n : ℕ) (log : List ℕ) where
-  run-drives-by : (u v : Bool) → recordsInRange z (lent ps acs ls t) ≡ u → hasNumbers ns n log ≡ v
-      → Drives z ps acs ls t ns log (if eqb (1 unless u ⨾ 8 unless v ⨾ ok) 0 then n else 0)
-  run-drives-by true true h k some = (in-range-fits z ps acs ls t h, numbers-there ns n log k)
-  run-drives-by true false h k some = absurd (not-suc-le-zero some)
-  run-drives-by false v h k some = absurd (not-suc-le-zero some)
+  run-drives-by : (u w v : Bool) → recordsInRange z (lent ps acs ls t) ≡ u → hasNumbers ns n log ≡ v
+      → Drives z ps acs ls t ns log (if eqb (1 unless u ⨾ 3 unless w ⨾ 8 unless v ⨾ ok) 0 then n else 0)
+  run-drives-by true true true h k some = (in-range-fits z ps acs ls t h, numbers-there ns n log k)
+  run-drives-by true true false h k some = absurd (not-suc-le-zero some)
+  run-drives-by true false v h k some = absurd (not-suc-le-zero some)
+  run-drives-by false w v h k some = absurd (not-suc-le-zero some)
 
   pub run-drives : Drives z ps acs ls t ns log (if eqb (runNo z (lent ps acs ls t) ns n log) 0 then n else 0)
-  run-drives = run-drives-by (recordsInRange z (lent ps acs ls t)) (hasNumbers ns n log) refl refl
+  run-drives = run-drives-by (recordsInRange z (lent ps acs ls t)) (leb n mostEvents) (hasNumbers ns n log) refl refl
 
 module _ (z : Sizes) (ps : List Proposer) (acs : List Acceptor) (ls : List Learner) (t : List Message) (ns : List ℕ) (n : ℕ) (log : List ℕ) where
-  run-ends-by : (u v : Bool) → recordsInRange z (lent ps acs ls t) ≡ u → hasNumbers ns n log ≡ v
-      → Ends (driven z ps acs ls t ns log (if eqb (1 unless u ⨾ 8 unless v ⨾ ok) 0 then n else 0))
-      (if eqb (1 unless u ⨾ 8 unless v ⨾ ok) 0 then run z (lent ps acs ls t) (eventsIn ns n) else lent ps acs ls t)
-      (if eqb (1 unless u ⨾ 8 unless v ⨾ ok) 0 then logged (answers z (lent ps acs ls t) (eventsIn ns n)) log else log)
+  run-ends-by : (u w v : Bool) → recordsInRange z (lent ps acs ls t) ≡ u → hasNumbers ns n log ≡ v
+      → Ends (driven z ps acs ls t ns log (if eqb (1 unless u ⨾ 3 unless w ⨾ 8 unless v ⨾ ok) 0 then n else 0))
+      (if eqb (1 unless u ⨾ 3 unless w ⨾ 8 unless v ⨾ ok) 0 then run z (lent ps acs ls t) (eventsIn ns n) else lent ps acs ls t)
+      (if eqb (1 unless u ⨾ 3 unless w ⨾ 8 unless v ⨾ ok) 0 then logged (answers z (lent ps acs ls t) (eventsIn ns n)) log else log)
   unfolding ranTo
-  run-ends-by true true h k = driven-ends z ps acs ls t ns log h n (numbers-there ns n log k .1)
-  run-ends-by true false h k = none-ends (driven z ps acs ls t ns log 0)
-  run-ends-by false v h k = none-ends (driven z ps acs ls t ns log 0)
+  run-ends-by true true true h k = driven-ends z ps acs ls t ns log h n (numbers-there ns n log k .1)
+  run-ends-by true true false h k = none-ends (driven z ps acs ls t ns log 0)
+  run-ends-by true false v h k = none-ends (driven z ps acs ls t ns log 0)
+  run-ends-by false w v h k = none-ends (driven z ps acs ls t ns log 0)
 
   pub run-ends : Ends (driven z ps acs ls t ns log (if eqb (runNo z (lent ps acs ls t) ns n log) 0 then n else 0)) (afterRun z (lent ps acs ls t) ns n log) (logAfterRun z (lent ps acs ls t) ns n log)
-  run-ends = run-ends-by (recordsInRange z (lent ps acs ls t)) (hasNumbers ns n log) refl refl
+  run-ends = run-ends-by (recordsInRange z (lent ps acs ls t)) (leb n mostEvents) (hasNumbers ns n log) refl refl
 
 -- ---- the call of a step: once where the records are in range, and otherwise a refusal with 1
 

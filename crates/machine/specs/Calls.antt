@@ -7,6 +7,7 @@ use lib.Dec.{eqb, leb}
 use lib.ListN.{length, drop}
 use Rattle.choice.specs.Choice.{if_then_else_}
 use Rattle.sizes.specs.Sizes.{sizesInRange}
+use Rattle.sizes.specs.Events.{mostEvents}
 use Rattle.sizes.specs.declared.Sizes.{Sizes}
 use Rattle.model.specs.Records.{State, fresh}
 use Rattle.choice.specs.Tests.{_unless_, _⨾_, ok}
@@ -51,7 +52,11 @@ abbrev pub hasNumbers : List ℕ → ℕ → List ℕ → Bool
 hasNumbers ns n log = enoughOf (length ns) (length log) n
 
 abbrev pub runNo : Sizes → State → List ℕ → ℕ → List ℕ → ℕ
-runNo z s ns n log = 1 unless recordsInRange z s ⨾ 8 unless hasNumbers ns n log ⨾ ok
+runNo z s ns n log =
+    1 unless recordsInRange z s
+    ⨾ 3 unless leb n mostEvents
+    ⨾ 8 unless hasNumbers ns n log
+    ⨾ ok
 
 abbrev pub afterRun : Sizes → State → List ℕ → ℕ → List ℕ → State
 afterRun z s ns n log = if eqb (runNo z s ns n log) 0 then run z s (eventsIn ns n) else s
@@ -61,12 +66,12 @@ logAfterRun z s ns n log = if eqb (runNo z s ns n log) 0 then logged (answers z 
 
 -- ---- a run from fresh, on records of its own
 
--- the refusal, by its tests
-abbrev pub wholeNo : Bool → Bool → ℕ
-wholeNo sized enough = 1 unless sized ⨾ 8 unless enough ⨾ ok
-
 abbrev pub wholeRunNo : Sizes → List ℕ → ℕ → List ℕ → ℕ
-wholeRunNo z ns n log = wholeNo (sizesInRange z) (hasNumbers ns n log)
+wholeRunNo z ns n log =
+    1 unless sizesInRange z
+    ⨾ 3 unless leb n mostEvents
+    ⨾ 8 unless hasNumbers ns n log
+    ⨾ ok
 
 abbrev pub logAfterWholeRun : Sizes → List ℕ → ℕ → List ℕ → List ℕ
 logAfterWholeRun z ns n log = if eqb (wholeRunNo z ns n log) 0 then logged (answers z (fresh z) (eventsIn ns n)) log else log
@@ -104,9 +109,17 @@ lengthsAre z p a l m = eqb p (z .proposers) && eqb a (z .acceptors) && eqb l (z 
 abbrev pub soundOf : Bool → Bool → Bool → Bool → Bool → ℕ
 soundOf sized p a l m = 1 unless (sized && p && a && l && m) ⨾ ok
 
--- and then 8 where there is not enough for the events
-abbrev pub soundRunOf : Bool → Bool → Bool → Bool → Bool → Bool → ℕ
-soundRunOf sized p a l m enough = 1 unless (sized && p && a && l && m) ⨾ 8 unless enough ⨾ ok
+-- the refusal of n events, where there are e numbers and l places of the log
+abbrev pub eventsNo : ℕ → ℕ → ℕ → ℕ
+eventsNo e l n = 3 unless leb n mostEvents ⨾ 8 unless enoughOf e l n ⨾ ok
+
+-- 1 as above, and then that of the events
+abbrev pub soundRunOf : Bool → Bool → Bool → Bool → Bool → ℕ → ℕ
+soundRunOf sized p a l m counted = 1 unless (sized && p && a && l && m) ⨾ counted
+
+-- 1 where a size is out of range, and then that of the events
+abbrev pub wholeNo : Bool → ℕ → ℕ
+wholeNo sized counted = 1 unless sized ⨾ counted
 
 -- 1 where a size, or how many there are of each, is out of range
 abbrev pub sizedNo : Sizes → ℕ → ℕ → ℕ → ℕ → ℕ

@@ -4,7 +4,7 @@ ghost use mathlib.Core.Bool.{_&&_};
 ghost use Rattle.sizes.specs.Sizes.{sizesInRange};
 ghost use Rattle.model.specs.Rules.{accepts, answering};
 ghost use Rattle.machine.specs.Slots.{takenSlot};
-ghost use Rattle.machine.specs.Calls.{lent, FreshCall, StepCall, RunCall, WholeRunCall, lengthsAre, soundOf, soundRunOf, turnsOf, sizedNo, enoughOf, wholeNo};
+ghost use Rattle.machine.specs.Calls.{lent, FreshCall, StepCall, RunCall, WholeRunCall, lengthsAre, soundOf, soundRunOf, turnsOf, sizedNo, enoughOf, eventsNo, wholeNo};
 use crate::lent::acceptors_in_range;
 use crate::lent::fill_acceptors;
 use crate::lent::fill_learners;
@@ -155,12 +155,23 @@ fn enough(numbers: usize, room: usize, n: u16) -> bool
     both(3 * n <= numbers, 2 * n <= room)
 }
 
-// 1 where the sizes and lengths, or the records, are out of range, and 8 where there is not enough for the events.
-fn run_no(sized: bool, p: bool, a: bool, l: bool, m: bool, enough: bool) -> u8
-    ensures { λ r. ⌜ r ≡ soundRunOf sized p a l m enough ⌝ }
+// 3 for more than 4,096 events, and 8 where there is not enough for them.
+fn events_no(numbers: usize, room: usize, n: u16) -> u8
+    ensures { λ r. ⌜ r ≡ eventsNo numbers room n ⌝ }
+{
+    let enough = enough(numbers, room, n);
+    if 4096 < n {
+        return 3;
+    }
+    if enough { 0 } else { 8 }
+}
+
+// 1 where the sizes and lengths, or the records, are out of range, and then the refusal of the events.
+fn run_no(sized: bool, p: bool, a: bool, l: bool, m: bool, counted: u8) -> u8
+    ensures { λ r. ⌜ r ≡ soundRunOf sized p a l m counted ⌝ }
 {
     if both(both(both(both(sized, p), a), l), m) {
-        if enough { 0 } else { 8 }
+        counted
     } else {
         1
     }
@@ -185,22 +196,18 @@ pub extern "C" fn machine_run(
     let a = acceptors_in_range(acs, z);
     let l = learners_in_range(ls, z);
     let m = messages_in_range(t, z);
-    let enough = enough(events.len(), log.len(), n);
-    let refusal = run_no(sized, p, a, l, m, enough);
+    let counted = events_no(events.len(), log.len(), n);
+    let refusal = run_no(sized, p, a, l, m, counted);
     let k = count_if(refusal, n);
     drive(z, ps, acs, ls, t, events, log, k);
     refusal
 }
 
-// 1 where a size is out of range, and 8 where there is not enough for the events.
-fn whole_run_no(z: Sizes, enough: bool) -> u8
-    ensures { λ r. ⌜ r ≡ wholeNo (sizesInRange z) enough ⌝ }
+// 1 where a size is out of range, and then the refusal of the events.
+fn whole_run_no(z: Sizes, counted: u8) -> u8
+    ensures { λ r. ⌜ r ≡ wholeNo (sizesInRange z) counted ⌝ }
 {
-    if z.in_range() {
-        if enough { 0 } else { 8 }
-    } else {
-        1
-    }
+    if z.in_range() { counted } else { 1 }
 }
 
 // A slot that is not free.
@@ -221,8 +228,8 @@ fn taken_slot() -> Message
 pub fn whole_run(z: Sizes, events: &[u64], log: &mut [u64], n: u16) -> u8
     ensures { λ r. ⌜ WholeRunCall z (now (events .entry)) n (now (log .entry)) r (now (log .exit)) ⌝ }
 {
-    let enough = enough(events.len(), log.len(), n);
-    let refusal = whole_run_no(z, enough);
+    let counted = events_no(events.len(), log.len(), n);
+    let refusal = whole_run_no(z, counted);
     let turns = count_if(refusal, n);
     let slots = slots_if(refusal, z);
     let p = Proposer::fresh();

@@ -9,6 +9,7 @@ use lib.ListN.{length, drop, getD, List·getD-append}
 use lib.Seq.{sets, sets-eq, length-sets}
 use borrow.Author.Tests.{le-leb, le-ltb}
 use Rattle.sizes.specs.Sizes.{sizesInRange}
+use Rattle.sizes.specs.Events.{mostEvents}
 use Rattle.sizes.specs.declared.Sizes.{Sizes}
 use Rattle.numbers.specs.declared.Refusal.{Refusal}
 use Rattle.numbers.specs.declared.Written.{Written}
@@ -51,7 +52,7 @@ all-answers : {z : Sizes} (Q : Answer → Type 0) → ((w : Answer) → Named z 
 all-answers Q f none = none
 all-answers Q f (also {x = w} x xs) = also (f w x) (all-answers Q f xs)
 
-module _ (z : Sizes) (ns log : List ℕ) (n : ℕ) (h : sizesInRange z ≡ true) (numbers : 3 * n ≤ length ns) (room : 2 * n ≤ length log) where
+module _ (z : Sizes) (ns log : List ℕ) (n : ℕ) (h : sizesInRange z ≡ true) (few : n ≤ mostEvents) (numbers : 3 * n ≤ length ns) (room : 2 * n ≤ length log) where
   there : hasNumbers ns n log ≡ true
   there = rw (le-leb (3 * n) (length ns) numbers, le-leb (2 * n) (length log) room)
 
@@ -61,7 +62,7 @@ module _ (z : Sizes) (ns log : List ℕ) (n : ℕ) (h : sizesInRange z ≡ true)
   run-log : answersIn (logAfterWholeRun z ns n log) n ≡ answers z (fresh z) (eventsIn ns n)
   run-log =
       let ws = answers z (fresh z) (eventsIn ns n) in
-      rw (h, there)
+      rw (h, le-leb n mostEvents few, there)
       (ap (answersIn (logged ws log)) (sym many) ∙ read-back ws (drop (2 * length ws) log) (all-answers Small (named-small z h) (all-named z (fresh z) (eventsIn ns n))))
 
   pub run-printed : (buffer log′ : List ℕ) (r : Written) (left : List ℕ) → log′ ≡ logAfterWholeRun z ns n log
@@ -93,7 +94,7 @@ module _ (bytes room : List ℕ) (size : length room ≡ 12_288) where
 
   pub record Ran (h : Header) : Type 0 where
     pub sizes : sizesInRange (h .sizes) ≡ true
-    pub few : h .events ≤ 4096
+    pub few : h .events ≤ mostEvents
     pub numbers : 3 * h .events ≤ length (afterRead (readSchedule bytes) room)
     pub same : textOfRun (h .sizes) (afterRead (readSchedule bytes) room) (h .events) ≡ text bytes
 

@@ -10,6 +10,7 @@ ghost use Rattle.text.specs.Digits.{decimal, hex};
 ghost use Rattle.model.specs.Step.{answerNo};
 ghost use mathlib.Core.Bool.{true};
 ghost use Rattle.sizes.specs.Sizes.{sizesInRange};
+ghost use Rattle.sizes.specs.Events.{mostEvents};
 ghost use Rattle.printer.specs.Puts.{Puts};
 ghost use Rattle.printer.specs.Log.{readAnswerOf, answerAt, answersIn};
 ghost use Rattle.printer.specs.Text.{refusedLine, setLine, lines, linesFrom, okCount, endWith, runText, refusedText, putAnswer, afterPut};
@@ -260,7 +261,7 @@ const MOST_ANSWERS: usize = 8_192;
 
 // The text of a run from fresh.
 fn print_run(buffer: &mut [u8], events: &[u64], header: Header) -> Written
-    requires { ⌜ (sizesInRange (header .sizes) ≡ true) × ((header .events ≤ 4096) × (3 * header .events ≤ length (now events))) ⌝ }
+    requires { ⌜ (sizesInRange (header .sizes) ≡ true) × ((header .events ≤ mostEvents) × (3 * header .events ≤ length (now events))) ⌝ }
     ensures { λ r. ⌜ (r ≡ putAnswer (textOfRun (header .sizes) (now (events .entry)) (header .events)) (now (buffer .entry))) × (now (buffer .exit) ≡ afterPut (textOfRun (header .sizes) (now (events .entry)) (header .events)) (now (buffer .entry))) ⌝ }
 {
     let mut log: [u64; MOST_ANSWERS] = [0; MOST_ANSWERS];

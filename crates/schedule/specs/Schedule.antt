@@ -5,6 +5,7 @@ use lib.Dec.{eqb, leb}
 use lib.ListN.{length, getD}
 use Rattle.choice.specs.Tests.{_unless_, refusal, _⨾_, ok}
 use Rattle.sizes.specs.Sizes.{sizesInRange}
+use Rattle.sizes.specs.Events.{mostEvents}
 use Rattle.sizes.specs.declared.Sizes.{Sizes}
 use Rattle.numbers.specs.Coding.{mostOf, putNo, putAnswer, afterPut}
 use Rattle.numbers.specs.declared.Limit.the-variants as limit
@@ -42,7 +43,7 @@ numbersOf h =
 unfoldable pub headerNo : Header → ℕ
 headerNo h =
     1 unless sizesInRange (h .sizes)
-    ⨾ 3 unless leb (h .events) 4_096
+    ⨾ 3 unless leb (h .events) mostEvents
     ⨾ ok
 
 -- ---- reading

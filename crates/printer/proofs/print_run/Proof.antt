@@ -30,7 +30,7 @@ returns c =
     let w = c .before .before .before .before .before .before .whole-run in
     let log : List ℕ = replicate 8_192 0 in
     let room : 2 * a .header .events ≤ length log = omega (arith, x .pre .1 .0, length-replicate {A = ℕ} 8_192 0) in
-    run-printed (a .header .sizes) (a .events .now) log (a .header .events) (x .pre .0) (x .pre .1 .1) room (a .buffer .now) _ _ _ (w .ensures .1) (c .before .before .print-log .ensures)
+    run-printed (a .header .sizes) (a .events .now) log (a .header .events) (x .pre .0) (x .pre .1 .0) (x .pre .1 .1) room (a .buffer .now) _ _ _ (w .ensures .1) (c .before .before .print-log .ensures)
 
 pub print-run-spec : {M : Type 1} → statement M
 print-run-spec =

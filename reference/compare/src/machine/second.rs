@@ -1,8 +1,8 @@
 //! The second program behind the proved calls' form.
 
 use reference::machine::{self, Outcome, Records};
-use reference::refusal::{Refusal, NO_ROOM, OUTSIDE_RANGE};
-use reference::schedule::Event;
+use reference::refusal::{Refusal, NO_ROOM, OUTSIDE_RANGE, OUTSIDE_SIZES};
+use reference::schedule::{Event, GREATEST_E};
 
 use super::form::{Record, Sizes};
 use super::lent::{differs, Lent};
@@ -75,7 +75,8 @@ impl State {
     }
 
     /// Does the first `n` of the events, each by `step`, and puts what they leave
-    /// into the lent places; refused 8 where there is no room for so many.
+    /// into the lent places; refused 3 where that is more than a schedule has,
+    /// and 8 where there is no room for so many.
     pub fn run(
         mut self,
         lent: &mut Lent,
@@ -84,6 +85,9 @@ impl State {
         n: u16,
         step: fn(&mut State, &Event) -> [u64; LOG],
     ) -> u8 {
+        if u64::from(n) > GREATEST_E {
+            return OUTSIDE_SIZES;
+        }
         if !has_room(events, log, n) {
             return NO_ROOM;
         }

@@ -17,20 +17,15 @@ both-requires-4 c κs = search needs
 
 returns : tie.Need-returns
 returns c =
-    let b = c .before .before in
-    simp (sym (b .before .before .before .both .ensures), sym (b .before .before .both2 .ensures), sym (b .before .both3 .ensures), sym (b .both4 .ensures) ∙ c .before .if1 .taken, c .if2 .taken)
+    let b = c .before in
+    simp (sym (b .before .before .before .both .ensures), sym (b .before .before .both2 .ensures), sym (b .before .both3 .ensures), sym (b .both4 .ensures) ∙ c .if1 .taken)
 
 returns-2 : tie.Need-returns-2
 returns-2 c =
-    let b = c .before .before in
-    simp (sym (b .before .before .before .both .ensures), sym (b .before .before .both2 .ensures), sym (b .before .both3 .ensures), sym (b .both4 .ensures) ∙ c .before .if1 .taken, c .if2 .left)
-
-returns-3 : tie.Need-returns-3
-returns-3 c =
     let b = c .before in
     simp (sym (b .before .before .before .both .ensures), sym (b .before .before .both2 .ensures), sym (b .before .both3 .ensures), sym (b .both4 .ensures) ∙ c .if1 .left)
 
 pub run-no-spec : {M : Type 1} → statement M
 run-no-spec =
     tie.close
-    (tie.spec both-requires both-requires-2 both-requires-3 both-requires-4 returns returns-2 returns-3)
+    (tie.spec both-requires both-requires-2 both-requires-3 both-requires-4 returns returns-2)

@@ -7,13 +7,10 @@ in-range-requires : tie.Need-in-range-requires
 in-range-requires c κs = search needs
 
 returns : tie.Need-returns
-returns c = simp (sym (c .before .before .in-range .ensures) ∙ c .before .if1 .taken, c .if2 .taken)
+returns c = simp (sym (c .before .in-range .ensures) ∙ c .if1 .taken)
 
 returns-2 : tie.Need-returns-2
-returns-2 c = simp (sym (c .before .before .in-range .ensures) ∙ c .before .if1 .taken, c .if2 .left)
-
-returns-3 : tie.Need-returns-3
-returns-3 c = simp (sym (c .before .in-range .ensures) ∙ c .if1 .left)
+returns-2 c = simp (sym (c .before .in-range .ensures) ∙ c .if1 .left)
 
 pub whole-run-no-spec : {M : Type 1} → statement M
-whole-run-no-spec = tie.close (tie.spec in-range-requires returns returns-2 returns-3)
+whole-run-no-spec = tie.close (tie.spec in-range-requires returns returns-2)

@@ -26,6 +26,7 @@ fn any_call<'a>(rng: &mut Rng, sizes: Sizes, event: &'a [u64; EVENT]) -> Call<'a
             events: &event[..2],
             ..call
         },
+        4 => Call { n: 4_097, ..call },
         _ => call,
     }
 }

@@ -1,23 +1,30 @@
-//! Refusal 8 of the call: too few numbers of events, or too little log.
+//! Refusals 3 and 8 of the call: too many events, and too few numbers of events
+//! or too little log.
 
-use reference::refusal::NO_ROOM;
+use reference::refusal::{NO_ROOM, OUTSIDE_SIZES};
 use reference::rng::Rng;
 
 use super::events::drawn_event;
 use super::{compare, compare_refused, Call};
 use crate::machine::drawn::Within;
+use crate::machine::lent::Lent;
 use crate::machine::sizes::SIZES;
 use crate::machine::{Machine, EVENT, LOG};
 use crate::suite::{Comparisons, Outcome};
 
-/// Counts of events, some of which three or two numbers each are more than 16
-/// bits for.
-const COUNTS: [u16; 12] = [
-    0, 1, 2, 3, 40, 4_096, 21_845, 21_846, 32_767, 32_768, 43_691, 65_535,
+/// Counts of events, some above 4,096, and some of those more than 16 bits are
+/// needed for three or two numbers each of.
+const COUNTS: [u16; 16] = [
+    0, 1, 2, 3, 40, 4_095, 4_096, 4_097, 5_000, 8_192, 21_845, 21_846, 32_767, 32_768, 43_691,
+    65_535,
 ];
 
+/// The most events that a run may have.
+const MOST: u16 = 4_096;
+
 /// Fewer numbers of events, or fewer numbers of log, than the count asks for:
-/// 8. With as many or more, the first events are done.
+/// 8. With as many or more, the first events are done. A count above 4,096
+/// gives 3, whatever the lengths.
 pub fn of_events_and_log<M: Machine>(rng: &mut Rng) -> Outcome {
     let mut comparisons = Comparisons::new();
     let sizes = SIZES[1];
@@ -35,6 +42,10 @@ pub fn of_events_and_log<M: Machine>(rng: &mut Rng) -> Outcome {
                     log,
                     n,
                 };
+                if n > MOST {
+                    compare_too_many::<M>(&mut comparisons, &call, &base)?;
+                    continue;
+                }
                 let left = compare::<M>(&mut comparisons, &call, &base)?;
                 comparisons.same(format_args!("{call}"), left.answer, 0)?;
             }
@@ -46,10 +57,23 @@ pub fn of_events_and_log<M: Machine>(rng: &mut Rng) -> Outcome {
                 log,
                 n,
             };
+            if n > MOST {
+                compare_too_many::<M>(&mut comparisons, &call, &base)?;
+                continue;
+            }
             compare_refused::<M>(&mut comparisons, &"room", &call, &base, NO_ROOM, None)?;
         }
     }
     comparisons.made()
+}
+
+/// Refused with 3, by the call itself.
+fn compare_too_many<M: Machine>(
+    comparisons: &mut Comparisons,
+    call: &Call,
+    lent: &Lent,
+) -> Result<(), String> {
+    compare_refused::<M>(comparisons, &"count", call, lent, OUTSIDE_SIZES, None)
 }
 
 /// Lengths of events and log of which one at least is too short; some are

@@ -47,10 +47,10 @@ wrong_run! {
     TakesThirtyTwoBits, STEPS, "arguments": |sizes, lent, events, log, n| {
         Second::run(sizes, lent, &cut(events, 32), log, n)
     };
-    /// Counts the numbers of events in 16 bits, and does the events that are
+    /// Counts the numbers of events in 8 bits, and does the events that are
     /// there.
-    CountsInSixteenBits, STEPS, "room_of_events_and_log": |sizes, lent, events, log, n| {
-        let wrapped = usize::from(n.wrapping_mul(EVENT as u16));
+    CountsInEightBits, STEPS, "room_of_events_and_log": |sizes, lent, events, log, n| {
+        let wrapped = usize::from((n as u8).wrapping_mul(EVENT as u8));
         let there = n.min((events.len() / EVENT) as u16);
         match events.len() >= wrapped && log.len() >= LOG * usize::from(n) {
             true => Second::run(sizes, lent, events, log, there),
@@ -61,6 +61,25 @@ wrong_run! {
     TestsRoomFirst, STEPS, "fields_past_their_ranges": |sizes, lent, events, log, n| {
         match events.len() < EVENT * usize::from(n) {
             true => 8,
+            false => Second::run(sizes, lent, events, log, n),
+        }
+    };
+    /// Takes 4,097 events, and does as many as a schedule has.
+    TakesOneMore, STEPS, "room_of_events_and_log": |sizes, lent, events, log, n| {
+        Second::run(sizes, lent, events, log, if n == 4_097 { 4_096 } else { n })
+    };
+    /// Tests the room before the count.
+    TestsRoomBeforeTheCount, STEPS, "room_of_events_and_log": |sizes, lent, events, log, n| {
+        let answer = Second::run(sizes, lent, events, log, n);
+        match answer == 3 && events.len() < EVENT * usize::from(n) {
+            true => 8,
+            false => answer,
+        }
+    };
+    /// Tests the count before the records.
+    TestsTheCountFirst, STEPS, "fields_past_their_ranges": |sizes, lent, events, log, n| {
+        match n > 4_096 {
+            true => 3,
             false => Second::run(sizes, lent, events, log, n),
         }
     };

@@ -1,8 +1,8 @@
-"""The walks of `single_step` and `machine_run`: crates/machine/proofs/calls/{single_step,machine_run}/Proof.antt. They follow the calls of src/calls.rt in their order.
+"""The walks of `single_step`, `machine_step` and `machine_run`: crates/machine/proofs/calls/{single_step,machine_step,machine_run}/Proof.antt. They follow the calls of src/calls.rt in their order.
 
 Run it at the project's root: python3 tools/machine_walks/calls.py
 """
-from walk import EVENTS, FIELDS, LENT, RECORDS, Function, Walk, fields_of, lent_on, shared_slice_of, slice_of, tupled, value
+from walk import CRATE, EVENTS, FIELDS, LENT, RECORDS, Function, Walk, fields_of, lent_on, shared_slice_of, slice_of, tupled, value
 
 COMMENT = '''-- `%s` meets its contract: a walk of its MIR. Each call is one step: by value, on one of the slices, which is lent and comes back, or on all of them. There is no branch. tools/machine_walks/calls.py writes this file.
 -- Assumes nothing.
@@ -55,6 +55,29 @@ w.cut()
 for s, local in enumerate([26, 28, 30, 32]):
     w.borrow(s, local, local + 1)
 w.hands(('running', 'repeat'), [1, 27, 29, 31, 33, 6, 13], 0, 'Answer', '(r .answer)', w.f.after, 'fitting')
+w.write()
+
+# ---- machine_step
+
+w = Walk(Function(
+    'calls', 'machine_step', comment=COMMENT % 'machine_step', enums=['Answer'],
+    structs=RECORDS + EVENTS + [('Said', 'Sa', CRATE + '.calls.Said', 'Rattle.machine.specs.declared.calls.Said')],
+    params=[value('Sizes', 'z')] + LENT + [value('Event', 'e')],
+    locals=['Answer'] + lent_on('mut'),
+    temporaries=8,
+    result=('Said', '(saidOf (done′ .answer))'),
+    after=fields_of('done′ .state'),
+    says='(refl, (refl, (refl, (refl, refl))))',
+    definitions=[('done′', 'Stepped', 'step z (lent-as ps acs ls t) e')],
+    facts=[],
+    uses=('''use Rattle.model.specs.Step.{Stepped, step}
+use Rattle.machine.specs.Calls.{lent as lent-as, saidOf}
+''', '')))
+for s, local in enumerate([8, 10, 12, 14]):
+    w.borrow(s, local, local + 1)
+w.hands(('calls', 'single_step'), [1, 9, 11, 13, 15, 6], 7, 'Answer', '(done′ .answer)', w.f.after)
+w.cut()
+w.call(('calls', 'said_of'), [7], 0, 'Said', '(saidOf (done′ .answer))')
 w.write()
 
 # ---- machine_run

@@ -22,7 +22,8 @@ use Rattle.model.specs.declared.Answer.the-variants.{Ok}
 use Rattle.model.proofs.Moments.{last}
 use Rattle.model.proofs.Safety.{safe}
 use Rattle.machine.specs.Running.{eventsIn}
-use Rattle.machine.specs.Calls.{lent, Leaves, afterFresh, runNo, afterRun}
+use Rattle.machine.specs.declared.calls.Said.{Said}
+use Rattle.machine.specs.Calls.{lent, Leaves, StepCall, SaidCall, afterFresh, runNo, afterRun}
 use Rattle.machine.proofs.RunLaws.{run-next}
 use Rattle.machine.specs.Histories.{doneBy, History, madeFresh, stepped, ran, Relies}
 
@@ -47,6 +48,10 @@ answer-last z s [] e = refl
 answer-last z s (f ∷ es) e = answer-last z (step z s f .state) es e
 
 -- ---- by call
+
+-- a step that says its answer as numbers is a step with that answer
+pub said-step : (z : Sizes) (s : State) (e : Event) (r : Said) (t : State) → SaidCall z s e r t → StepCall z s e (step z s e .answer) t
+said-step z s e r t c = (refl, c .1)
 
 record Run (z : Sizes) (es : List Event) (t : State) : Type 0 where
   sizes : sizesInRange z ≡ true

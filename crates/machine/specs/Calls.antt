@@ -19,6 +19,7 @@ use Rattle.model.specs.declared.Learner.{Learner}
 use Rattle.model.specs.declared.Message.{Message}
 use Rattle.model.specs.declared.Event.{Event}
 use Rattle.model.specs.declared.Answer.{Answer}
+use Rattle.machine.specs.declared.calls.Said.{Said}
 use Rattle.machine.specs.Running.{eventsIn, saidNo, saidSet}
 
 -- the records that a caller lends
@@ -32,6 +33,11 @@ freshNo z s = 1 unless (sizesInRange z && lengthsInRange z s) ⨾ ok
 
 abbrev pub afterFresh : Sizes → State → State
 afterFresh z s = if eqb (freshNo z s) 0 then fresh z else s
+
+-- ---- one step, its answer as the two numbers that a log has of it
+
+abbrev pub saidOf : Answer → Said
+saidOf w = record { no = saidNo w; set = saidSet w }
 
 -- ---- a run of n events, three numbers each; each answer is two numbers of the log
 
@@ -87,6 +93,9 @@ FreshCall z s r t = (r ≡ freshNo z s) × Leaves t (afterFresh z s)
 
 abbrev pub StepCall : Sizes → State → Event → Answer → State → Type 0
 StepCall z s e r t = (r ≡ step z s e .answer) × Leaves t (step z s e .state)
+
+abbrev pub SaidCall : Sizes → State → Event → Said → State → Type 0
+SaidCall z s e r t = (r ≡ saidOf (step z s e .answer)) × Leaves t (step z s e .state)
 
 abbrev pub RunCall : Sizes → State → List ℕ → ℕ → List ℕ → ℕ → State → List ℕ → Type 0
 RunCall z s ns n log r t log′ =

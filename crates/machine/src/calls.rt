@@ -4,7 +4,7 @@ ghost use mathlib.Core.Bool.{_&&_};
 ghost use Rattle.sizes.specs.Sizes.{sizesInRange};
 ghost use Rattle.model.specs.Rules.{accepts, answering};
 ghost use Rattle.machine.specs.Slots.{takenSlot};
-ghost use Rattle.machine.specs.Calls.{lent, FreshCall, StepCall, RunCall, WholeRunCall, lengthsAre, soundOf, soundRunOf, turnsOf, sizedNo, enoughOf, eventsNo, wholeNo};
+ghost use Rattle.machine.specs.Calls.{lent, saidOf, FreshCall, StepCall, SaidCall, RunCall, WholeRunCall, lengthsAre, soundOf, soundRunOf, turnsOf, sizedNo, enoughOf, eventsNo, wholeNo};
 use crate::lent::acceptors_in_range;
 use crate::lent::fill_acceptors;
 use crate::lent::fill_learners;
@@ -15,6 +15,8 @@ use crate::lent::messages_in_range;
 use crate::lent::proposers_in_range;
 use crate::running::drive;
 use crate::running::repeat;
+use crate::running::said_no;
+use crate::running::said_set;
 use choice::both;
 use model::Acceptor;
 use model::Answer;
@@ -145,6 +147,37 @@ pub fn single_step(
     let refusal = sound_no(sized, p, a, l, m);
     let n = once_if(refusal);
     repeat(z, ps, acs, ls, t, e, n)
+}
+
+// An answer as the two numbers that a log has of it: 0 for ok, a refusal's number, 256 and the learner, 512 and the proposer; and the set.
+#[repr(C)]
+pub struct Said {
+    pub no: u64,
+    pub set: u64,
+}
+
+fn said_of(answer: Answer) -> Said
+    ensures { λ r. ⌜ r ≡ saidOf answer ⌝ }
+{
+    let no = said_no(answer);
+    let set = said_set(answer);
+    Said { no, set }
+}
+
+// One event as above, its answer as two numbers.
+#[no_mangle]
+pub extern "C" fn machine_step(
+    z: Sizes,
+    ps: &mut [Proposer],
+    acs: &mut [Acceptor],
+    ls: &mut [Learner],
+    t: &mut [Message],
+    e: Event,
+) -> Said
+    ensures { λ r. ⌜ SaidCall z (lent (now (ps .entry)) (now (acs .entry)) (now (ls .entry)) (now (t .entry))) e r (lent (now (ps .exit)) (now (acs .exit)) (now (ls .exit)) (now (t .exit))) ⌝ }
+{
+    let answer = single_step(z, ps, acs, ls, t, e);
+    said_of(answer)
 }
 
 // There are numbers for `n` events, three for each, and room for their answers, two for each.

@@ -25,7 +25,7 @@ fn event_at(events: &[u64], k: usize) -> Event
     }
 }
 
-fn said_no(answer: Answer) -> u64
+pub(crate) fn said_no(answer: Answer) -> u64
     ensures { λ r. ⌜ r ≡ saidNo answer ⌝ }
 {
     match answer {
@@ -36,7 +36,7 @@ fn said_no(answer: Answer) -> u64
     }
 }
 
-fn said_set(answer: Answer) -> u64
+pub(crate) fn said_set(answer: Answer) -> u64
     ensures { λ r. ⌜ r ≡ saidSet answer ⌝ }
 {
     match answer {

@@ -6,7 +6,8 @@ use Rattle.sizes.specs.declared.Sizes.{Sizes}
 use Rattle.model.specs.Records.{State}
 use Rattle.model.specs.declared.Event.{Event}
 use Rattle.model.specs.declared.Answer.{Answer}
-use Rattle.machine.specs.Calls.{Leaves, FreshCall, StepCall, RunCall, WholeRunCall}
+use Rattle.machine.specs.declared.calls.Said.{Said}
+use Rattle.machine.specs.Calls.{Leaves, FreshCall, StepCall, SaidCall, RunCall, WholeRunCall}
 
 -- of a promise that is an equation
 pub one-value : {B : Type 0} {x y d : B} → x ≡ d → y ≡ d → x ≡ y
@@ -26,6 +27,9 @@ one-fresh z s c c′ = (one-value (c .0) (c′ .0), one-state (c .1) (c′ .1))
 
 pub one-step : (z : Sizes) (s : State) (e : Event) {r r′ : Answer} {t t′ : State} → StepCall z s e r t → StepCall z s e r′ t′ → (r ≡ r′) × (t ≡ t′)
 one-step z s e c c′ = (one-value (c .0) (c′ .0), one-state (c .1) (c′ .1))
+
+pub one-said : (z : Sizes) (s : State) (e : Event) {r r′ : Said} {t t′ : State} → SaidCall z s e r t → SaidCall z s e r′ t′ → (r ≡ r′) × (t ≡ t′)
+one-said z s e c c′ = (one-value (c .0) (c′ .0), one-state (c .1) (c′ .1))
 
 pub one-run : (z : Sizes) (s : State) (ns : List ℕ) (n : ℕ) (log : List ℕ) {r r′ : ℕ} {t t′ : State} {l l′ : List ℕ}
     → RunCall z s ns n log r t l → RunCall z s ns n log r′ t′ l′ → (r ≡ r′) × ((t ≡ t′) × (l ≡ l′))

@@ -3,13 +3,13 @@
 //! calls give them: a test answers 0 or 1, a call that may refuse answers 0 or
 //! the refusal's number.
 
-use compare::machine::form::{Acceptor, Learner, Message, Proposer, Sizes};
+use compare::machine::form::{Acceptor, Event, Learner, Message, Proposer, Said, Sizes};
 
 #[allow(dead_code)]
 pub mod site;
 
 mod c {
-    use super::{Acceptor, Learner, Message, Proposer, Sizes};
+    use super::{Acceptor, Event, Learner, Message, Proposer, Said, Sizes};
 
     extern "C" {
         pub fn test_scans_of_one(scan: u16) -> u64;
@@ -101,6 +101,18 @@ mod c {
             slots: *mut Message,
             slots_length: usize,
         ) -> u8;
+        pub fn machine_step(
+            sizes: Sizes,
+            proposers: *mut Proposer,
+            proposers_length: usize,
+            acceptors: *mut Acceptor,
+            acceptors_length: usize,
+            learners: *mut Learner,
+            learners_length: usize,
+            slots: *mut Message,
+            slots_length: usize,
+            event: Event,
+        ) -> Said;
         pub fn machine_run(
             sizes: Sizes,
             proposers: *mut Proposer,
@@ -325,6 +337,34 @@ pub fn fresh(
             learners.len(),
             slots.as_mut_ptr(),
             slots.len(),
+        )
+    }
+}
+
+/// Does one event on the records and slots, and says what a log says of it.
+pub fn step(
+    sizes: Sizes,
+    proposers: &mut [Proposer],
+    acceptors: &mut [Acceptor],
+    learners: &mut [Learner],
+    slots: &mut [Message],
+    event: Event,
+) -> Said {
+    // SAFETY: the call reads and writes as many records and slots from each
+    // slice's pointer as its length says at most; all four are borrowed for the
+    // call. A flag can only be given as 0 or 1.
+    unsafe {
+        c::machine_step(
+            sizes,
+            proposers.as_mut_ptr(),
+            proposers.len(),
+            acceptors.as_mut_ptr(),
+            acceptors.len(),
+            learners.as_mut_ptr(),
+            learners.len(),
+            slots.as_mut_ptr(),
+            slots.len(),
+            event,
         )
     }
 }

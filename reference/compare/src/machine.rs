@@ -26,10 +26,15 @@ pub const LOG: usize = 2;
 /// What a log holds before a call; no number that a call may leave there.
 const BEFORE: u64 = 0xa5c3_9617_e4d2_b80f;
 
-/// The calls of a machine. Each answers 0 or a refusal's number.
+/// The calls of a machine. Those of a fresh run and of events answer 0 or a
+/// refusal's number.
 pub trait Machine: 'static {
     /// Makes the lent records those of a fresh run.
     fn fresh(sizes: Sizes, lent: &mut Lent) -> u8;
+
+    /// Does one event on the lent records, and says the two numbers that a log
+    /// has for it; 1 where a size, a length or a field is outside its range.
+    fn step(sizes: Sizes, lent: &mut Lent, event: [u64; EVENT]) -> [u64; LOG];
 
     /// Does the first `n` of the events on the lent records and leaves two
     /// numbers of the log for each.

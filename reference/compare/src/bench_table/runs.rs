@@ -163,37 +163,49 @@ impl ProvedRun {
         )
     }
 
-    /// Does as many events from that one on.
-    fn run(&mut self, first: usize, count: usize) -> u8 {
+    /// Does as many of the first events.
+    fn run(&mut self, count: usize) -> u8 {
         calls::run(
             self.sizes,
             &mut self.proposers,
             &mut self.acceptors,
             &mut self.learners,
             &mut self.slots,
-            &self.events[EVENT * first..],
-            &mut self.log[LOG * first..],
+            &self.events,
+            &mut self.log,
             count as u16,
         )
     }
 
     pub fn run_at_once(&mut self) -> u64 {
         let count = self.events.len() / EVENT;
-        match (self.fresh(), self.run(0, count)) {
+        match (self.fresh(), self.run(count)) {
             (0, 0) => sum_of(&self.log),
             _ => REFUSED,
         }
     }
 
     pub fn run_by_steps(&mut self) -> u64 {
-        let mut refused = self.fresh();
-        for place in 0..self.events.len() / EVENT {
-            refused |= self.run(place, 1);
+        if self.fresh() != 0 {
+            return REFUSED;
         }
-        match refused {
-            0 => sum_of(&self.log),
-            _ => REFUSED,
+        let events = self.events.chunks_exact(EVENT);
+        for (event, log) in events.zip(self.log.chunks_exact_mut(LOG)) {
+            let said = calls::step(
+                self.sizes,
+                &mut self.proposers,
+                &mut self.acceptors,
+                &mut self.learners,
+                &mut self.slots,
+                form::Event {
+                    code: event[0],
+                    a: event[1],
+                    b: event[2],
+                },
+            );
+            log.copy_from_slice(&[said.no, said.set]);
         }
+        sum_of(&self.log)
     }
 }
 

@@ -88,6 +88,22 @@ pub struct Message {
     pub set: u64,
 }
 
+#[repr(C)]
+#[derive(Clone, Copy, Debug, Default, PartialEq, Eq)]
+pub struct Event {
+    pub code: u64,
+    pub a: u64,
+    pub b: u64,
+}
+
+/// What a single step says: the two numbers that a log has for its event.
+#[repr(C)]
+#[derive(Clone, Copy, Debug, Default, PartialEq, Eq)]
+pub struct Said {
+    pub no: u64,
+    pub set: u64,
+}
+
 impl Proposer {
     /// A fresh run's: alive, passive, sets empty, number 0.
     pub const FRESH: Proposer = Proposer {

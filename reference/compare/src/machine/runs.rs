@@ -151,8 +151,8 @@ fn fresh<M: Machine>(
     Ok(lent)
 }
 
-/// One call for each event: what both programs leave after each. Gives the
-/// log of the second program.
+/// One call for each event, as a run of one event and as a single step: what
+/// both programs leave after each. Gives the log of the second program.
 fn compare_steps<M: Machine>(
     comparisons: &mut Comparisons,
     rng: &mut Rng,
@@ -160,6 +160,7 @@ fn compare_steps<M: Machine>(
     progress: &mut Progress,
 ) -> Result<Vec<u64>, String> {
     let mut lent = fresh::<M>(comparisons, rng, schedule)?;
+    let mut stepped = lent.clone();
     let mut state = State::fresh(&schedule.sizes);
     let guards = lent.clone();
     comparisons.left(
@@ -171,16 +172,25 @@ fn compare_steps<M: Machine>(
         let events = &schedule.numbers[EVENT * place..];
         let mut left = [BEFORE; LOG + 1];
         let answer = M::run(schedule.sizes, &mut lent, events, &mut left, 1);
+        let step = M::step(
+            schedule.sizes,
+            &mut stepped,
+            [event.code, event.a, event.b],
+        );
         let said = state.step(event);
         let [first, second] = said;
         comparisons.same(
             format_args!("the answer to the last of {}", schedule.upto(place + 1)),
-            (answer, left),
-            (0, [first, second, BEFORE]),
+            (answer, left, step),
+            (0, [first, second, BEFORE], said),
         )?;
         comparisons.left(
             format_args!("after {}", schedule.upto(place + 1)),
             state.difference(&lent),
+        )?;
+        comparisons.left(
+            format_args!("after single steps, {}", schedule.upto(place + 1)),
+            state.difference(&stepped),
         )?;
         progress.add(said);
         log.extend(said);
@@ -190,7 +200,8 @@ fn compare_steps<M: Machine>(
             "around the lent places, after {}",
             schedule.upto(log.len() / LOG)
         ),
-        lent.guard_difference(&guards),
+        lent.guard_difference(&guards)
+            .or_else(|| stepped.guard_difference(&guards)),
     )?;
     Ok(log)
 }

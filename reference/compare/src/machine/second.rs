@@ -172,6 +172,17 @@ impl Machine for Second {
         }
     }
 
+    fn step(sizes: Sizes, lent: &mut Lent, event: [u64; EVENT]) -> [u64; LOG] {
+        match State::tested(&sizes, lent) {
+            Err(refusal) => said(Err(refusal)),
+            Ok(mut state) => {
+                let said = state.step(&event_of(&event));
+                state.store(lent);
+                said
+            }
+        }
+    }
+
     fn run(sizes: Sizes, lent: &mut Lent, events: &[u64], log: &mut [u64], n: u16) -> u8 {
         match State::tested(&sizes, lent) {
             Err(refusal) => refusal,

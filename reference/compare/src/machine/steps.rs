@@ -1,5 +1,6 @@
-//! Single events on lent records, within their ranges and past them. A refusal
-//! leaves every record and slot as it was.
+//! Single events on lent records, within their ranges and past them, as a run of
+//! one event and as a single step. A refusal leaves every record and slot as it
+//! was.
 
 use std::fmt::{Display, Formatter};
 
@@ -46,6 +47,12 @@ impl Call<'_> {
         vec![BEFORE; self.log.max(LOG * usize::from(self.n)) + 1]
     }
 
+    /// The first event, where it is lent.
+    fn first(&self) -> Option<[u64; EVENT]> {
+        let numbers = self.events.get(..EVENT)?;
+        numbers.try_into().ok()
+    }
+
     /// Makes the call on a copy of the lent records.
     fn make<M: Machine>(&self, lent: &Lent) -> Left {
         let mut left = Left {
@@ -85,6 +92,29 @@ struct Left {
     lent: Lent,
 }
 
+/// Compares a single step of the call's first event: what both programs say of
+/// it, and what they leave.
+fn compare_step<M: Machine>(
+    comparisons: &mut Comparisons,
+    call: &Call,
+    lent: &Lent,
+) -> Result<(), String> {
+    let event = match call.first() {
+        Some(event) => event,
+        None => return Ok(()),
+    };
+    let (mut proved, mut second) = (lent.clone(), lent.clone());
+    comparisons.same(
+        format_args!("a step of {call}, {lent:?}"),
+        M::step(call.sizes, &mut proved, event),
+        Second::step(call.sizes, &mut second, event),
+    )?;
+    comparisons.left(
+        format_args!("a step of {call}, {lent:?}"),
+        proved.difference(&second),
+    )
+}
+
 /// Compares what both programs leave.
 fn compare<M: Machine>(
     comparisons: &mut Comparisons,
@@ -102,6 +132,7 @@ fn compare<M: Machine>(
         format_args!("{call}, {lent:?}"),
         proved.lent.difference(&second.lent),
     )?;
+    compare_step::<M>(comparisons, call, lent)?;
     Ok(proved)
 }
 
@@ -130,7 +161,7 @@ fn compare_refused<M: Machine>(
     for left in [&proved.lent, &second.lent] {
         comparisons.left(format_args!("{name}, {call}"), left.difference(lent))?;
     }
-    Ok(())
+    compare_step::<M>(comparisons, call, lent)
 }
 
 /// Refused with 1, by the call itself.

@@ -7,7 +7,7 @@ use std::cell::Cell;
 use super::form::Sizes;
 use super::lent::Lent;
 use super::second::Second;
-use super::{Machine, Suites};
+use super::{Machine, Suites, EVENT, LOG};
 use crate::suite::{Test, Tests};
 
 /// Machines that are the second program but in doing events, each with the
@@ -46,6 +46,7 @@ mod runs;
 mod same;
 mod sending;
 mod sizes;
+mod steps;
 pub mod told;
 mod untested;
 
@@ -58,11 +59,24 @@ type Fresh = fn(Sizes, &mut Lent) -> u8;
 /// A machine's call that does events.
 type Run = fn(Sizes, &mut Lent, &[u64], &mut [u64], u16) -> u8;
 
+/// A machine's call that does one event, of its call that does events.
+type Step = fn(Run, Sizes, &mut Lent, [u64; EVENT]) -> [u64; LOG];
+
+/// One event by the call that does events.
+fn by_run(run: Run, sizes: Sizes, lent: &mut Lent, event: [u64; EVENT]) -> [u64; LOG] {
+    let mut log = [0; LOG];
+    match run(sizes, lent, &event, &mut log, 1) {
+        0 => log,
+        refusal => [refusal.into(), 0],
+    }
+}
+
 /// The calls of a machine.
 #[derive(Clone, Copy)]
 struct Calls {
     fresh: Fresh,
     run: Run,
+    step: Step,
 }
 
 impl Calls {
@@ -70,6 +84,7 @@ impl Calls {
     const TRUE: Calls = Calls {
         fresh: Second::fresh,
         run: Second::run,
+        step: by_run,
     };
 }
 
@@ -110,6 +125,7 @@ pub fn all() -> impl Iterator<Item = &'static Wrong> {
         order::LIST,
         logs::LIST,
         runs::LIST,
+        steps::LIST,
         ranges::LIST,
         limits::LIST,
         sizes::LIST,
@@ -156,6 +172,22 @@ impl Machine for InPlace {
             Seen::Records => {
                 (calls.fresh)(sizes, lent);
                 Second::fresh(sizes, &mut truly)
+            }
+        }
+    }
+
+    fn step(sizes: Sizes, lent: &mut Lent, event: [u64; EVENT]) -> [u64; LOG] {
+        let (calls, seen) = IN_PLACE.with(Cell::get);
+        let mut other = lent.clone();
+        match seen {
+            Seen::All => (calls.step)(calls.run, sizes, lent, event),
+            Seen::Answers => {
+                Second::step(sizes, lent, event);
+                (calls.step)(calls.run, sizes, &mut other, event)
+            }
+            Seen::Records => {
+                (calls.step)(calls.run, sizes, lent, event);
+                Second::step(sizes, &mut other, event)
             }
         }
     }

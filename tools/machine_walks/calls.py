@@ -38,15 +38,16 @@ w = Walk(Function(
     temporaries=14,
     result=('Answer', '(r .answer)'),
     after=fields_of('r'),
-    says=tupled(['agree .' + x for x in ['answer'] + FIELDS]),
+    says=tupled(['agree .answer', 'ap (λ (w : Answer). answerNo w) (agree .answer) ∙ step-number z (lent-as ps acs ls t) e'] + ['agree .' + x for x in FIELDS]),
     definitions=TESTS + [('k', 'ℕ', 'soundOf all-sized p a l m'), ('n', 'ℕ', 'turnsOf k 1'), ('r', 'Left', 'timesOf z e ps acs ls t n')],
     facts=[('fitting', 'Repeats z ps acs ls t n', 'step-sound z ps acs ls t e'), ('agree', 'Agrees r (step z (lent-as ps acs ls t) e)', 'step-left z ps acs ls t e')],
-    uses=(USES + '''use Rattle.model.specs.Step.{step}
+    uses=(USES + '''use Rattle.model.specs.Step.{answerNo, step}
 use Rattle.machine.specs.Stepping.{Left}
 use Rattle.machine.specs.Running.{timesOf, Repeats}
 use Rattle.machine.specs.Calls.{lent as lent-as, lengthsAre, soundOf, turnsOf}
 ''', '''use Rattle.machine.proofs.StepLaws.{Agrees}
 use Rattle.machine.proofs.CallTests.{step-sound, step-left}
+use Rattle.machine.proofs.AnswerNumbers.{step-number}
 ''')))
 test_records(w, 7, 14, 18)
 w.call(('calls', 'sound_no'), [7, 8, 9, 10, 11], 12, 'u8', 'k')
@@ -75,7 +76,7 @@ use Rattle.machine.specs.Calls.{lent as lent-as, saidOf}
 ''', '')))
 for s, local in enumerate([8, 10, 12, 14]):
     w.borrow(s, local, local + 1)
-w.hands(('calls', 'single_step'), [1, 9, 11, 13, 15, 6], 7, 'Answer', '(done′ .answer)', w.f.after)
+w.hands(('calls', 'single_step'), [1, 9, 11, 13, 15, 6], 7, 'Answer', '(done′ .answer)', w.f.after, told='(e′ .0, e′ .1 .1)')
 w.cut()
 w.call(('calls', 'said_of'), [7], 0, 'Said', '(saidOf (done′ .answer))')
 w.write()

@@ -398,9 +398,9 @@ class Walk:
         del self.known[d]
         self.lists[s], self.same[s] = left, same
 
-    def hands(self, f, args, d, t, result, left=(), need=None):
-        """d = f(args), of parameters of any kind: a local that has a slice is one that is borrowed, and lent, or a `&[T]` parameter, which is handed on. `left` names the lists that come back, in their order."""
-        n, g, es, left, parts, told = self.cite(f), 'g%d' % d, 'e%d' % d, list(left), [], []
+    def hands(self, f, args, d, t, result, left=(), need=None, told=None):
+        """d = f(args), of parameters of any kind: a local that has a slice is one that is borrowed, and lent, or a `&[T]` parameter, which is handed on. `left` names the lists that come back, in their order; `told` takes what the callee says of these and of the result from all that it says, e′."""
+        n, g, es, left, parts, lists = self.cite(f), 'g%d' % d, 'e%d' % d, list(left), [], []
         slices = [self.borrowed[x] for x in args if x in self.borrowed]
         self.front(slices)
         for i, x in enumerate(args):
@@ -414,11 +414,11 @@ class Walk:
             if not self.f.shared[s]:
                 l = left.pop(0)
                 parts[-1] += ' %s %s %s room%s' % (self.lists[s], l, self.same[s], sub(s))
-                told.append('(ws%s .0 ≡ %s)' % (' .1' * i, l))
-                self.lists[s], self.same[s] = l, '(%s%s .0)' % (es, ' .1' * (len(told) - 1))
-        said = '(λ w v ws. id⊢ 𝓤 _)'
+                lists.append('(ws%s .0 ≡ %s)' % (' .1' * i, l))
+                self.lists[s], self.same[s] = l, '(%s%s .0)' % (es, ' .1' * (len(lists) - 1))
+        said = '(λ w v ws. fact-mono 𝓤 _ _ (λ e′. %s))' % told if told else '(λ w v ws. id⊢ 𝓤 _)'
         if t == 'unit':
-            said = '(λ w v ws. fact-mono 𝓤 ({0}) ((v ≡ tt) × ({0})) (λ e′. (refl, e′)))'.format(nested(told))
+            said = '(λ w v ws. fact-mono 𝓤 ({0}) ((v ≡ tt) × ({0})) (λ e′. (refl, e′)))'.format(nested(lists))
         for line in ('calls ! fm (%s ∷ [])' % '\n∷ '.join(parts)).split('\n'):
             self.say(line)
         self.say('{t} ({n}.clauses 𝓤 H A mem run) known-{n} {val} {tells} {r} (λ w. tt) (λ w. {need}) {said} (λ w. {ops}) (λ {g} {es}.'.format(

@@ -24,6 +24,7 @@ use Rattle.model.proofs.Safety.{safe}
 use Rattle.machine.specs.Running.{eventsIn}
 use Rattle.machine.specs.declared.calls.Said.{Said}
 use Rattle.machine.specs.Calls.{lent, Leaves, StepCall, SaidCall, afterFresh, runNo, afterRun}
+use Rattle.machine.proofs.AnswerNumbers.{step-number}
 use Rattle.machine.proofs.RunLaws.{run-next}
 use Rattle.machine.specs.Histories.{doneBy, History, madeFresh, stepped, ran, Relies}
 
@@ -51,7 +52,7 @@ answer-last z s (f ∷ es) e = answer-last z (step z s f .state) es e
 
 -- a step that says its answer as numbers is a step with that answer
 pub said-step : (z : Sizes) (s : State) (e : Event) (r : Said) (t : State) → SaidCall z s e r t → StepCall z s e (step z s e .answer) t
-said-step z s e r t c = (refl, c .1)
+said-step z s e r t c = (refl, (step-number z s e, c .1))
 
 record Run (z : Sizes) (es : List Event) (t : State) : Type 0 where
   sizes : sizesInRange z ≡ true
@@ -77,7 +78,7 @@ history-run z _ _ (madeFresh s t c) =
     record { sizes = f .0; state = same-state t (afterFresh z s) (c .1) ∙ f .1 }
 history-run z _ _ (stepped es s t e r h c) =
     let x = history-run z es s h in
-    record { sizes = x .sizes; state = same-state t (step z s e .state) (c .1) ∙ ap (λ (u : State). step z u e .state) (x .state) ∙ sym (run-next z (fresh z) es e) }
+    record { sizes = x .sizes; state = same-state t (step z s e .state) (c .1 .1) ∙ ap (λ (u : State). step z u e .state) (x .state) ∙ sym (run-next z (fresh z) es e) }
 history-run z _ _ (ran es s t ns n log log′ r h c) =
     let x = history-run z es s h in
     record {

@@ -15,6 +15,7 @@ pub mod RunLaws
 pub mod Longer
 pub mod CallLaws
 pub mod CallTests
+pub mod AnswerNumbers
 pub mod LoopsOverSteps
 pub mod Histories
 pub mod Storing

@@ -12,7 +12,7 @@ use Rattle.sizes.specs.declared.Sizes.{Sizes}
 use Rattle.model.specs.Records.{State, fresh}
 use Rattle.choice.specs.Tests.{_unless_, _⨾_, ok}
 use Rattle.model.specs.Ranges.{lengthsInRange, recordsInRange}
-use Rattle.model.specs.Step.{step, run, answers}
+use Rattle.model.specs.Step.{answerNo, stepNo, step, run, answers}
 use Rattle.model.specs.declared.Proposer.{Proposer}
 use Rattle.model.specs.declared.Acceptor.{Acceptor}
 use Rattle.model.specs.declared.Learner.{Learner}
@@ -91,8 +91,11 @@ Leaves t u = (t .proposers ≡ u .proposers) × ((t .acceptors ≡ u .acceptors)
 abbrev pub FreshCall : Sizes → State → ℕ → State → Type 0
 FreshCall z s r t = (r ≡ freshNo z s) × Leaves t (afterFresh z s)
 
+-- the answer is document 01's, and so is its number
 abbrev pub StepCall : Sizes → State → Event → Answer → State → Type 0
-StepCall z s e r t = (r ≡ step z s e .answer) × Leaves t (step z s e .state)
+StepCall z s e r t =
+    (r ≡ step z s e .answer)
+    × ((answerNo r ≡ stepNo z s e) × Leaves t (step z s e .state))
 
 abbrev pub SaidCall : Sizes → State → Event → Said → State → Type 0
 SaidCall z s e r t = (r ≡ saidOf (step z s e .answer)) × Leaves t (step z s e .state)

@@ -18,6 +18,7 @@ use Rattle.model.proofs.InRange.{step-in-range}
 use Rattle.machine.specs.Running.{eventOf, eventsIn}
 use Rattle.machine.specs.Calls.{FreshCall, RunCall, runNo, afterRun, logAfterRun}
 use Rattle.machine.specs.Histories.{History, madeFresh, stepped, ran, Relies}
+use Rattle.machine.proofs.AnswerNumbers.{step-number}
 use Rattle.machine.proofs.Histories.{calls-safe}
 use Rattle.tight.specs.Rejected.{small, numbers}
 use Rattle.tight.specs.Moments.{GoesOn}
@@ -54,7 +55,7 @@ ranOthers : RunCall small afterFirst others 6 log 0 afterAll (logAfterRun small 
 ranOthers = (run-fine, (refl, (refl, (refl, (refl, refl)))))
 
 firstDone : History small (first ∷ []) afterFirst
-firstDone = stepped [] (fresh small) afterFirst first (step small (fresh small) first .answer) (madeFresh (fresh small) (fresh small) made) (refl, (refl, (refl, (refl, refl))))
+firstDone = stepped [] (fresh small) afterFirst first (step small (fresh small) first .answer) (madeFresh (fresh small) (fresh small) made) (refl, (step-number small (fresh small) first, (refl, (refl, (refl, refl)))))
 
 pub history : History small (first ∷ eventsIn others 6) afterAll
 history = ran (first ∷ []) afterFirst afterAll others 6 log (logAfterRun small afterFirst others 6 log) 0 firstDone ranOthers

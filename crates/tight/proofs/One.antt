@@ -26,7 +26,7 @@ pub one-fresh : (z : Sizes) (s : State) {r r′ : ℕ} {t t′ : State} → Fres
 one-fresh z s c c′ = (one-value (c .0) (c′ .0), one-state (c .1) (c′ .1))
 
 pub one-step : (z : Sizes) (s : State) (e : Event) {r r′ : Answer} {t t′ : State} → StepCall z s e r t → StepCall z s e r′ t′ → (r ≡ r′) × (t ≡ t′)
-one-step z s e c c′ = (one-value (c .0) (c′ .0), one-state (c .1) (c′ .1))
+one-step z s e c c′ = (one-value (c .0) (c′ .0), one-state (c .1 .1) (c′ .1 .1))
 
 pub one-said : (z : Sizes) (s : State) (e : Event) {r r′ : Said} {t t′ : State} → SaidCall z s e r t → SaidCall z s e r′ t′ → (r ≡ r′) × (t ≡ t′)
 one-said z s e c c′ = (one-value (c .0) (c′ .0), one-state (c .1) (c′ .1))

@@ -38,13 +38,14 @@ use Rattle.printer.specs.Printing.{textOfRead, text}
 use Rattle.printer.proofs.ReadBack.{Small, read-back}
 use Rattle.printer.proofs.Example.{example-text}
 use Rattle.tight.specs.Rejected.{StepProgram, PrintProgram, StepKept, RunKept, WholeRunKept, PrintKept, small, numbers, example, saidBy, leftBy, shown, printed, Says, LeftBehind, RefusesEvery, AlwaysOk, ChangesNothing, PretendsOk, PretendsDone, InventsCounts}
+use Rattle.machine.proofs.AnswerNumbers.{step-number}
 use Rattle.tight.proofs.One.{one-step, one-run}
 use Rattle.tight.proofs.Texts.{refusal-no-run, nothing-no-run, Alike, ok-same, refused-same, later-alike, one-text}
 
 -- ---- there are programs that keep their promises
 
 pub step-kept : StepKept step
-step-kept z s e = (refl, (refl, (refl, (refl, refl))))
+step-kept z s e = (refl, (step-number z s e, (refl, (refl, (refl, refl)))))
 
 pub run-kept : RunKept (λ z s ns n log. record { no = runNo z s ns n log; state = afterRun z s ns n log; log = logAfterRun z s ns n log })
 run-kept z s ns n log = (refl, (refl, (refl, (refl, (refl, refl)))))
@@ -59,7 +60,7 @@ print-kept buffer bytes = (refl, refl)
 
 module _ (f : StepProgram) (k : StepKept f) (z : Sizes) where
   one-called : (s : State) (e : Event) → (f z s e .answer ≡ step z s e .answer) × (f z s e .state ≡ step z s e .state)
-  one-called s e = one-step z s e (k z s e) (refl, (refl, (refl, (refl, refl))))
+  one-called s e = one-step z s e (k z s e) (step-kept z s e)
 
   steps-say : (s : State) (es : List Event) → saidBy f z s es ≡ answers z s es
   unfolding saidBy answers

@@ -15,7 +15,7 @@ use prog.Memory.{Memory}
 use prog.Routine.{Routine}
 use prog.Wp.{Heap, Env, Calls, Loops, WpFn, Tables}
 use ghost.Atoms.{Atoms}
-use contract.Monad.{Fun, fact}
+use contract.Monad.{Fun, fact, fact-mono}
 use contract.Running.{givenOf, tables, tablesOf}
 use types.Kit.{Given, ‵, _⊛_, ⋆, runs, atRet, Sq, _$_, _∵_, !, qed, by, move, keep, split, join, fsplit, fjoin, suffices, frame, done}
 use types.Part.{agg, whole, sub, look-in}
@@ -217,7 +217,7 @@ module _ {M : Type 1} (𝓤 : URA M) (H : Heap 𝓤) (A : Atoms 𝓤) (W : Given
           ∷ lent Le.the-row κ₂ q₂ γ₂ b₂ o₂ n₂ ls (done′ .state .learners) refl room₂
           ∷ lent Ms.the-row κ₃ q₃ γ₃ b₃ o₃ n₃ t (done′ .state .slots) refl room₃
           ∷ passed Ev.the-row valsEv makesEv e ge ∷ [])
-          An.the-row (single-step.clauses 𝓤 H A mem run) known-single-step valAn (EL.tells An.the-type An′.the-laws) (done′ .answer) (λ w. tt) (λ w. id⊢ 𝓤 (emp 𝓤)) (λ w v ws. id⊢ 𝓤 _) (λ w. (and-then ! (reads ! (from ! (stop !)) (look ! 30 refl)) (and-then ! (reads ! (from ! (stop !)) (look ! 14 refl)) (and-then ! (reads ! (from ! (stop !)) (look ! 10 refl)) (and-then ! (reads ! (from ! (stop !)) (look ! 6 refl)) (and-then ! (reads ! (from ! (stop !)) (look ! 2 refl)) (and-then ! (reads ! (from ! (stop !)) (look ! 20 refl)) (no-more !)))))))) (λ g7 e7.
+          An.the-row (single-step.clauses 𝓤 H A mem run) known-single-step valAn (EL.tells An.the-type An′.the-laws) (done′ .answer) (λ w. tt) (λ w. id⊢ 𝓤 (emp 𝓤)) (λ w v ws. fact-mono 𝓤 _ _ (λ e′. (e′ .0, e′ .1 .1))) (λ w. (and-then ! (reads ! (from ! (stop !)) (look ! 30 refl)) (and-then ! (reads ! (from ! (stop !)) (look ! 14 refl)) (and-then ! (reads ! (from ! (stop !)) (look ! 10 refl)) (and-then ! (reads ! (from ! (stop !)) (look ! 6 refl)) (and-then ! (reads ! (from ! (stop !)) (look ! 2 refl)) (and-then ! (reads ! (from ! (stop !)) (look ! 20 refl)) (no-more !)))))))) (λ g7 e7.
           land ! (from ! (stop !)) (init ! 24 refl (typedAn (done′ .answer) g7)) $
           forget ! 22 refl $
           forget ! 20 refl $

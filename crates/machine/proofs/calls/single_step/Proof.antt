@@ -1,6 +1,6 @@
 -- `single_step` meets its contract: a walk of its MIR. Each call is one step: by value, on one of the slices, which is lent and comes back, or on all of them. There is no branch. tools/machine_walks/calls.py writes this file.
 -- Assumes nothing.
-use mathlib.Core.Path.{_≡_, refl}
+use mathlib.Core.Path.{_≡_, refl, _∙_, ap}
 use Prim.Native.Nat.{ℕ}
 use mathlib.Core.List.{List, [], _∷_}
 use lib.Dec.{T as Holds}
@@ -40,7 +40,7 @@ use denote.Exit.{yes}
 use mathlib.Core.Bool.{Bool, _&&_}
 use Rattle.sizes.specs.Sizes.{sizesInRange}
 use Rattle.model.specs.Ranges.{all, proposerInRange, acceptorInRange, learnerInRange, messageInRange}
-use Rattle.model.specs.Step.{step}
+use Rattle.model.specs.Step.{answerNo, step}
 use Rattle.machine.specs.Stepping.{Left}
 use Rattle.machine.specs.Running.{timesOf, Repeats}
 use Rattle.machine.specs.Calls.{lent as lent-as, lengthsAre, soundOf, turnsOf}
@@ -51,6 +51,7 @@ use Rattle.machine.proofs.CallsWithSlices.{passed, lent, calls}
 use Rattle.machine.proofs.CallsLending.{calls-shared}
 use Rattle.machine.proofs.StepLaws.{Agrees}
 use Rattle.machine.proofs.CallTests.{step-sound, step-left}
+use Rattle.machine.proofs.AnswerNumbers.{step-number}
 use Rattle.model.specs.declared.Proposer.{Proposer}
 use Rattle.model.proofs.Proposer as Pr
 use Rattle.model.specs.declared.Acceptor.{Acceptor}
@@ -242,7 +243,7 @@ module _ {M : Type 1} (𝓤 : URA M) (H : Heap 𝓤) (A : Atoms 𝓤) (W : Given
   exits : Is An.the-row (r .answer) (valsAn (r .answer)) → length (r .proposers) ≡ n₀ → length (r .acceptors) ≡ n₁ → length (r .learners) ≡ n₂ → length (r .slots) ≡ n₃ → ent 𝓤 (⋆ 𝓤 H A (‵ (Slice Pr.the-row κ₀ γ₀ b₀ o₀ n₀ (r .proposers)) ∷ ‵ (flft κ₀ q₀) ∷ ‵ (Slice Ac.the-row κ₁ γ₁ b₁ o₁ n₁ (r .acceptors)) ∷ ‵ (flft κ₁ q₁) ∷ ‵ (Slice Le.the-row κ₂ γ₂ b₂ o₂ n₂ (r .learners)) ∷ ‵ (flft κ₂ q₂) ∷ ‵ (Slice Ms.the-row κ₃ γ₃ b₃ o₃ n₃ (r .slots)) ∷ ‵ (flft κ₃ q₃) ∷ [])) (Post (valAn (r .answer)))
   exits is e₀ e₁ e₂ e₃ =
       qed W (‵ (Slice Pr.the-row κ₀ γ₀ b₀ o₀ n₀ (r .proposers)) ∷ ‵ (flft κ₀ q₀) ∷ ‵ (Slice Ac.the-row κ₁ γ₁ b₁ o₁ n₁ (r .acceptors)) ∷ ‵ (flft κ₁ q₁) ∷ ‵ (Slice Le.the-row κ₂ γ₂ b₂ o₂ n₂ (r .learners)) ∷ ‵ (flft κ₂ q₂) ∷ ‵ (Slice Ms.the-row κ₃ γ₃ b₃ o₃ n₃ (r .slots)) ∷ ‵ (flft κ₃ q₃) ∷ []) ∵
-      suffices ! _ (ends-at 𝓤 H A this.ended stayed (this.clauses 𝓤 H A mem run) W (((κ₀, (κ₁, (κ₂, (κ₃, tt)))), (q₀, (q₁, (q₂, (q₃, tt)))), tt, (z, (listAt Pr.the-row b₀ o₀ ps γ₀, (listAt Ac.the-row b₁ o₁ acs γ₁, (listAt Le.the-row b₂ o₂ ls γ₂, (listAt Ms.the-row b₃ o₃ t γ₃, (e, tt)))))), at), tt) (valAn (r .answer)) (r .answer) (tt, ((r .proposers), ((r .acceptors), ((r .learners), ((r .slots), (tt, tt)))))) (tt, (e₀, (e₁, (e₂, (e₃, (tt, tt))))))) $ says ! (agree .answer, (agree .proposers, (agree .acceptors, (agree .learners, agree .slots)))) $
+      suffices ! _ (ends-at 𝓤 H A this.ended stayed (this.clauses 𝓤 H A mem run) W (((κ₀, (κ₁, (κ₂, (κ₃, tt)))), (q₀, (q₁, (q₂, (q₃, tt)))), tt, (z, (listAt Pr.the-row b₀ o₀ ps γ₀, (listAt Ac.the-row b₁ o₁ acs γ₁, (listAt Le.the-row b₂ o₂ ls γ₂, (listAt Ms.the-row b₃ o₃ t γ₃, (e, tt)))))), at), tt) (valAn (r .answer)) (r .answer) (tt, ((r .proposers), ((r .acceptors), ((r .learners), ((r .slots), (tt, tt)))))) (tt, (e₀, (e₁, (e₂, (e₃, (tt, tt))))))) $ says ! (agree .answer, (ap (λ (w : Answer). answerNo w) (agree .answer) ∙ step-number z (lent-as ps acs ls t) e, (agree .proposers, (agree .acceptors, (agree .learners, agree .slots))))) $
       nothing ! $ move ! (8 ∷ 0 ∷ []) $ join ! $ move ! (6 ∷ 0 ∷ []) $ join ! $ move ! (4 ∷ 0 ∷ []) $ join ! $ move ! (2 ∷ 0 ∷ []) $ join ! $ frame ! $
       nothing ! $ owned ! Ev.the-row (Is Ev.the-row) makesEv e _ ge $ fjoin ! $ move ! (4 ∷ 0 ∷ []) $ fjoin ! $ move ! (3 ∷ 0 ∷ []) $ fjoin ! $ move ! (2 ∷ 0 ∷ []) $ fjoin ! $ move ! (1 ∷ 0 ∷ []) $ fjoin ! $
       owned ! Sz.the-row (Is Sz.the-row) makesSz z _ gz $ fjoin ! $ frame ! $ owned ! An.the-row (Is An.the-row) makesAn (r .answer) _ is $ done !

@@ -44,7 +44,8 @@ w = Walk(Function(
     uses=(USES + '''use Rattle.model.specs.Step.{answerNo, step}
 use Rattle.machine.specs.Stepping.{Left}
 use Rattle.machine.specs.Running.{timesOf, Repeats}
-use Rattle.machine.specs.Calls.{lent as lent-as, lengthsAre, soundOf, turnsOf}
+use Rattle.machine.specs.Calls.{lent as lent-as}
+use Rattle.machine.specs.Counting.{lengthsAre, soundOf, turnsOf}
 ''', '''use Rattle.machine.proofs.StepLaws.{Agrees}
 use Rattle.machine.proofs.CallTests.{step-sound, step-left}
 use Rattle.machine.proofs.AnswerNumbers.{step-number}
@@ -90,12 +91,13 @@ w = Walk(Function(
     temporaries=17,
     result=('u8', 'k'),
     after=fields_of('r') + ['events', '(r .log)'],
-    says=tupled(['run-refused z ps acs ls t events log n'] + ['ends .' + x for x in FIELDS + ['log']]),
+    says=tupled(['run-refused z ps acs ls t events log n', tupled(['ends .' + x for x in FIELDS]), 'ends .log']),
     definitions=TESTS + [('counted', 'ℕ', 'eventsNo n₄ n₅ n'), ('k', 'ℕ', 'soundRunOf all-sized p a l m counted'), ('i', 'ℕ', 'turnsOf k n'), ('r', 'Ran', 'driven z ps acs ls t events log i')],
     facts=[('fitting', 'Drives z ps acs ls t events log i', 'run-sound z ps acs ls t events log n'),
            ('ends', 'Ends r (afterRun z (lent-as ps acs ls t) events n log) (logAfterRun z (lent-as ps acs ls t) events n log)', 'run-left z ps acs ls t events log n')],
     uses=(USES + '''use Rattle.machine.specs.Running.{Ran, driven, Drives}
-use Rattle.machine.specs.Calls.{lent as lent-as, lengthsAre, eventsNo, soundRunOf, turnsOf, afterRun, logAfterRun}
+use Rattle.machine.specs.Calls.{lent as lent-as, afterRun, logAfterRun}
+use Rattle.machine.specs.Counting.{lengthsAre, eventsNo, soundRunOf, turnsOf}
 ''', '''use Rattle.machine.proofs.RunLaws.{Ends}
 use Rattle.machine.proofs.CallTests.{run-refused, run-sound, run-left}
 ''')))

@@ -26,7 +26,7 @@ f = Function(
         ('in-p', 'pn ≤ length ps', 'proposers-there ' + all_five), ('in-a', 'an ≤ length acs', 'acceptors-there ' + all_five),
         ('in-l', 'ln ≤ length ls', 'learners-there ' + all_five), ('in-m', 'mn ≤ length t', 'slots-there ' + all_five)],
     uses=('''use Rattle.model.specs.Records.{freshProposer, freshAcceptor, freshLearner, freeSlot}
-use Rattle.machine.specs.Calls.{turnsOf, sizedNo}
+use Rattle.machine.specs.Counting.{turnsOf, sizedNo}
 ''', '''use Rattle.machine.proofs.Filling.{filled}
 use Rattle.machine.proofs.CallLaws.{refused-fresh, proposers-there, acceptors-there, learners-there, slots-there, fresh-proposers, fresh-acceptors, fresh-learners, fresh-slots}
 '''))

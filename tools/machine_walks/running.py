@@ -154,7 +154,8 @@ w = Loop(Function(
     definitions=[('r₀', 'Ran', 'record { proposers = ps; acceptors = acs; learners = ls; slots = t; log = log }')],
     facts=[],
     uses=('''use Rattle.machine.specs.Stepping.{Left, stepOf, Fits}
-use Rattle.machine.specs.Running.{eventOf, noted, Ran, onward, ranTo, driven, Drives}
+use Rattle.machine.specs.Running.{noted, Ran, onward, ranTo, driven, Drives}
+use Rattle.machine.specs.Calls.{eventOf}
 ''', '''use Rattle.machine.proofs.LoopsOverSteps.{at-end, still-fit, event-there, answer-there, ran-none, ran-next}
 use Rattle.machine.proofs.WalkedLoops.{tests, Nearer, Nearer-wf, fits-next, falls}
 ''')), 'Ran', ('ranTo z events r₀', 'ran-none z events r₀'), 9, [

@@ -105,7 +105,8 @@ f = Own(
     uses=('''use Rattle.model.specs.Records.{freshProposer, freshAcceptor, freshLearner, freeSlot}
 use Rattle.machine.specs.Slots.{takenSlot}
 use Rattle.machine.specs.Running.{Ran, driven, Drives}
-use Rattle.machine.specs.Calls.{eventsNo, wholeRunNo, turnsOf}
+use Rattle.machine.specs.Calls.{wholeRunNo}
+use Rattle.machine.specs.Counting.{eventsNo, turnsOf}
 ''', '''use Rattle.machine.proofs.Filling.{filled}
 use Rattle.machine.proofs.Longer.{whole-run-first, whole-run-drives, whole-run-log, slots-few}
 '''))

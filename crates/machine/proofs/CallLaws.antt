@@ -18,7 +18,8 @@ use Rattle.model.specs.declared.Acceptor.{Acceptor}
 use Rattle.model.specs.declared.Learner.{Learner}
 use Rattle.model.specs.declared.Message.{Message}
 use Rattle.choice.proofs.Tests.{and-l, and-r}
-use Rattle.machine.specs.Calls.{lent, lengthsAre, turnsOf, sizedNo, freshNo, afterFresh}
+use Rattle.machine.specs.Calls.{lent, freshNo, afterFresh}
+use Rattle.machine.specs.Counting.{lengthsAre, turnsOf, sizedNo}
 use Rattle.machine.proofs.Filling.{filled}
 
 -- ---- one list of n records, by the test b

@@ -16,7 +16,8 @@ use Rattle.model.specs.declared.Learner.{Learner}
 use Rattle.model.specs.declared.Message.{Message}
 use Rattle.model.specs.declared.Event.{Event}
 use Rattle.machine.specs.Running.{driven, Drives, timesOf, Repeats}
-use Rattle.machine.specs.Calls.{lent, lengthsAre, soundOf, turnsOf, eventsNo, soundRunOf, runNo, afterRun, logAfterRun}
+use Rattle.machine.specs.Calls.{lent, runNo, afterRun, logAfterRun}
+use Rattle.machine.specs.Counting.{lengthsAre, soundOf, turnsOf, eventsNo, soundRunOf}
 use Rattle.machine.proofs.StepLaws.{Agrees}
 use Rattle.machine.proofs.RunLaws.{Ends, step-repeats, step-once, run-drives, run-ends}
 

@@ -21,9 +21,8 @@ use Rattle.model.specs.declared.Event.{Event}
 use Rattle.model.specs.declared.Answer.the-variants.{Ok}
 use Rattle.model.proofs.Moments.{last}
 use Rattle.model.proofs.Safety.{safe}
-use Rattle.machine.specs.Running.{eventsIn}
+use Rattle.machine.specs.Calls.{eventsIn, lent, Leaves, StepCall, SaidCall, afterFresh, runNo, afterRun}
 use Rattle.machine.specs.declared.calls.Said.{Said}
-use Rattle.machine.specs.Calls.{lent, Leaves, StepCall, SaidCall, afterFresh, runNo, afterRun}
 use Rattle.machine.proofs.AnswerNumbers.{step-number}
 use Rattle.machine.proofs.RunLaws.{run-next}
 use Rattle.machine.specs.Histories.{doneBy, History, madeFresh, stepped, ran, Relies}
@@ -83,7 +82,7 @@ history-run z _ _ (ran es s t ns n log log′ r h c) =
     let x = history-run z es s h in
     record {
       sizes = x .sizes;
-      state = same-state t (afterRun z s ns n log) (c .1 .0, (c .1 .1 .0, (c .1 .1 .1 .0, c .1 .1 .1 .1 .0)))
+      state = same-state t (afterRun z s ns n log) (c .1 .0)
           ∙ run-by z s (eqb (runNo z s ns n log) 0) (eventsIn ns n)
           ∙ ap (λ (k : ℕ). run z s (doneBy k ns n)) (sym (c .0))
           ∙ ap (λ (u : State). run z u (doneBy r ns n)) (x .state)

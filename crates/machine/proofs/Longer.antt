@@ -31,8 +31,9 @@ use Rattle.decisions.specs.Sending.{isTaken, itemsOf}
 use Rattle.decisions.specs.Change.{learnerAfter, slotAfter}
 use Rattle.machine.specs.declared.step.Decision.{Decision}
 use Rattle.machine.specs.Stepping.{within, partyOf, decideOf, finishOf, replyOf, Fits, Left, theMessage, stepOf}
-use Rattle.machine.specs.Running.{eventOf, eventsIn, noted, Ran, onward, ranTo, driven, Drives}
-use Rattle.machine.specs.Calls.{logged, hasNumbers, wholeRunNo, logAfterWholeRun, turnsOf}
+use Rattle.machine.specs.Running.{noted, Ran, onward, ranTo, driven, Drives}
+use Rattle.machine.specs.Calls.{eventOf, eventsIn, logged, hasNumbers, wholeRunNo, logAfterWholeRun}
+use Rattle.machine.specs.Counting.{turnsOf}
 use Rattle.machine.proofs.Posting.{others-take}
 use Rattle.machine.proofs.Readiness.{proposer-there, acceptor-there, learner-there, slot-there}
 use Rattle.machine.proofs.RunLaws.{driven-ends, in-range-fits, numbers-there}

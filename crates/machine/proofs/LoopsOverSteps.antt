@@ -16,7 +16,8 @@ use Rattle.model.specs.declared.Learner.{Learner}
 use Rattle.model.specs.declared.Message.{Message}
 use Rattle.model.specs.declared.Event.{Event}
 use Rattle.machine.specs.Stepping.{Left, stepOf, Fits}
-use Rattle.machine.specs.Running.{eventOf, Ran, onward, ranTo, timesFrom}
+use Rattle.machine.specs.Running.{Ran, onward, ranTo, timesFrom}
+use Rattle.machine.specs.Calls.{eventOf}
 
 pub at-end : (k n : ℕ) → k ≤ n → n ≤ k → k ≡ n
 at-end k n l r = omega arith

@@ -27,8 +27,8 @@ use Rattle.model.specs.declared.Answer.{Answer}
 use Rattle.choice.proofs.Tests.{and-l, and-r}
 use Rattle.model.proofs.InRange.{test-ranges, sizes-in-range, step-in-range}
 use Rattle.machine.specs.Stepping.{Fits, stepOf}
-use Rattle.machine.specs.Running.{eventOf, eventsIn, saidNo, saidSet, noted, Ran, onward, ranTo, driven, Drives, timesFrom, timesOf, Repeats}
-use Rattle.machine.specs.Calls.{lent, said, logged, hasNumbers, runNo, afterRun, logAfterRun}
+use Rattle.machine.specs.Running.{noted, Ran, onward, ranTo, driven, Drives, timesFrom, timesOf, Repeats}
+use Rattle.machine.specs.Calls.{eventOf, eventsIn, saidNo, saidSet, lent, said, logged, hasNumbers, runNo, afterRun, logAfterRun}
 use Rattle.machine.proofs.StepLaws.{Agrees, step-agrees, step-refused}
 
 -- ---- one event more

@@ -1,16 +1,17 @@
 -- What the calls promise, of the records that a caller lends: fresh, one step, a run, and a run from fresh on records of its own.
 use mathlib.Core.Path.{_≡_}
 use mathlib.Core.Bool.{Bool, _&&_}
-use mathlib.Core.List.{List, [], _∷_, _++_}
+use mathlib.Core.List.{List, [], _∷_, _++_, map}
 use Prim.Native.Nat.{ℕ, _+_, _*_}
 use lib.Dec.{eqb, leb}
-use lib.ListN.{length, drop}
+use lib.ListN.{length, drop, getD}
 use Rattle.choice.specs.Choice.{if_then_else_}
 use Rattle.sizes.specs.Sizes.{sizesInRange}
 use Rattle.sizes.specs.Events.{mostEvents}
 use Rattle.sizes.specs.declared.Sizes.{Sizes}
 use Rattle.model.specs.Records.{State, fresh}
 use Rattle.choice.specs.Tests.{_unless_, _⨾_, ok}
+use Rattle.model.specs.Table.{from}
 use Rattle.model.specs.Ranges.{lengthsInRange, recordsInRange}
 use Rattle.model.specs.Step.{answerNo, stepNo, step, run, answers}
 use Rattle.model.specs.declared.Proposer.{Proposer}
@@ -19,8 +20,8 @@ use Rattle.model.specs.declared.Learner.{Learner}
 use Rattle.model.specs.declared.Message.{Message}
 use Rattle.model.specs.declared.Event.{Event}
 use Rattle.model.specs.declared.Answer.{Answer}
+use Rattle.model.specs.declared.Answer.the-variants.{Ok, Learnt, Decided, Refused}
 use Rattle.machine.specs.declared.calls.Said.{Said}
-use Rattle.machine.specs.Running.{eventsIn, saidNo, saidSet}
 
 -- the records that a caller lends
 abbrev pub lent : List Proposer → List Acceptor → List Learner → List Message → State
@@ -34,12 +35,34 @@ freshNo z s = 1 unless (sizesInRange z && lengthsInRange z s) ⨾ ok
 abbrev pub afterFresh : Sizes → State → State
 afterFresh z s = if eqb (freshNo z s) 0 then fresh z else s
 
--- ---- one step, its answer as the two numbers that a log has of it
+-- ---- an answer as two numbers
+
+-- 0 for ok, a refusal's number, 256 and the learner, 512 and the proposer
+unfoldable pub saidNo : Answer → ℕ
+saidNo Ok = 0
+saidNo (Learnt l v) = 256 + l .0
+saidNo (Decided p v) = 512 + p .0
+saidNo (Refused n) = n
+
+-- the set learnt or decided, scan 0 the lowest bit
+unfoldable pub saidSet : Answer → ℕ
+saidSet Ok = 0
+saidSet (Learnt l v) = v .bits
+saidSet (Decided p v) = v .bits
+saidSet (Refused n) = 0
 
 abbrev pub saidOf : Answer → Said
 saidOf w = record { no = saidNo w; set = saidSet w }
 
 -- ---- a run of n events, three numbers each; each answer is two numbers of the log
+
+-- event k: code, a, b
+abbrev pub eventOf : List ℕ → ℕ → Event
+eventOf ns k = record { code = getD ns (3 * k) 0; a = getD ns (3 * k + 1) 0; b = getD ns (3 * k + 2) 0 }
+
+-- the first n of them
+abbrev pub eventsIn : List ℕ → ℕ → List Event
+eventsIn ns n = map (eventOf ns) (from 0 n)
 
 -- the answers as they stand in a log
 unfoldable pub said : List Answer → List ℕ
@@ -86,7 +109,9 @@ logAfterWholeRun z ns n log = if eqb (wholeRunNo z ns n log) 0 then logged (answ
 
 -- the four lists that are left, one by one
 abbrev pub Leaves : State → State → Type 0
-Leaves t u = (t .proposers ≡ u .proposers) × ((t .acceptors ≡ u .acceptors) × ((t .learners ≡ u .learners) × (t .slots ≡ u .slots)))
+Leaves t u =
+    (t .proposers ≡ u .proposers)
+    × ((t .acceptors ≡ u .acceptors) × ((t .learners ≡ u .learners) × (t .slots ≡ u .slots)))
 
 abbrev pub FreshCall : Sizes → State → ℕ → State → Type 0
 FreshCall z s r t = (r ≡ freshNo z s) × Leaves t (afterFresh z s)
@@ -103,40 +128,7 @@ SaidCall z s e r t = (r ≡ saidOf (step z s e .answer)) × Leaves t (step z s e
 abbrev pub RunCall : Sizes → State → List ℕ → ℕ → List ℕ → ℕ → State → List ℕ → Type 0
 RunCall z s ns n log r t log′ =
     (r ≡ runNo z s ns n log)
-    × ((t .proposers ≡ afterRun z s ns n log .proposers)
-    × ((t .acceptors ≡ afterRun z s ns n log .acceptors)
-    × ((t .learners ≡ afterRun z s ns n log .learners)
-    × ((t .slots ≡ afterRun z s ns n log .slots) × (log′ ≡ logAfterRun z s ns n log)))))
+    × (Leaves t (afterRun z s ns n log) × (log′ ≡ logAfterRun z s ns n log))
 
 abbrev pub WholeRunCall : Sizes → List ℕ → ℕ → List ℕ → ℕ → List ℕ → Type 0
 WholeRunCall z ns n log r log′ = (r ≡ wholeRunNo z ns n log) × (log′ ≡ logAfterWholeRun z ns n log)
-
--- ---- how the calls test and count
-
--- how many there are of each
-abbrev pub lengthsAre : Sizes → ℕ → ℕ → ℕ → ℕ → Bool
-lengthsAre z p a l m = eqb p (z .proposers) && eqb a (z .acceptors) && eqb l (z .learners) && eqb m (z .slots)
-
--- 1 where the sizes and lengths, or the records, are out of range
-abbrev pub soundOf : Bool → Bool → Bool → Bool → Bool → ℕ
-soundOf sized p a l m = 1 unless (sized && p && a && l && m) ⨾ ok
-
--- the refusal of n events, where there are e numbers and l places of the log
-abbrev pub eventsNo : ℕ → ℕ → ℕ → ℕ
-eventsNo e l n = 3 unless leb n mostEvents ⨾ 8 unless enoughOf e l n ⨾ ok
-
--- 1 as above, and then that of the events
-abbrev pub soundRunOf : Bool → Bool → Bool → Bool → Bool → ℕ → ℕ
-soundRunOf sized p a l m counted = 1 unless (sized && p && a && l && m) ⨾ counted
-
--- 1 where a size is out of range, and then that of the events
-abbrev pub wholeNo : Bool → ℕ → ℕ
-wholeNo sized counted = 1 unless sized ⨾ counted
-
--- 1 where a size, or how many there are of each, is out of range
-abbrev pub sizedNo : Sizes → ℕ → ℕ → ℕ → ℕ → ℕ
-sizedNo z p a l m = 1 unless (sizesInRange z && lengthsAre z p a l m) ⨾ ok
-
--- so many where nothing is refused, and otherwise none
-abbrev pub turnsOf : ℕ → ℕ → ℕ
-turnsOf k n = if eqb k 0 then n else 0

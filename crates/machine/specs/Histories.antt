@@ -14,8 +14,7 @@ use Rattle.model.specs.Safety.{moment, Safe}
 use Rattle.model.specs.declared.Event.{Event}
 use Rattle.model.specs.declared.Answer.{Answer}
 use Rattle.model.specs.declared.Answer.the-variants.{Ok}
-use Rattle.machine.specs.Running.{eventsIn}
-use Rattle.machine.specs.Calls.{FreshCall, StepCall, RunCall}
+use Rattle.machine.specs.Calls.{eventsIn, FreshCall, StepCall, RunCall}
 
 -- the events that a run call does: none where it refuses
 abbrev pub doneBy : ℕ → List ℕ → ℕ → List Event

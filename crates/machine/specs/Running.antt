@@ -1,43 +1,18 @@
--- A run over the events of a schedule, on the records that a caller lends, as the code does it: event by event, each answer into a log.
-use mathlib.Core.List.{List, map}
+-- A run over the events of a schedule, on the records that a caller lends, as the code does it: event by event, each answer into a log. Contracts of private functions.
+use mathlib.Core.Path.{_≡_}
+use mathlib.Core.List.{List}
 use Prim.Native.Nat.{ℕ, zero, suc, _+_, _*_, _<_, _≤_}
-use lib.ListN.{length, getD, set}
+use lib.ListN.{length, set}
 use Rattle.sizes.specs.declared.Sizes.{Sizes}
-use Rattle.model.specs.Table.{from}
 use Rattle.model.specs.declared.Proposer.{Proposer}
 use Rattle.model.specs.declared.Acceptor.{Acceptor}
 use Rattle.model.specs.declared.Learner.{Learner}
 use Rattle.model.specs.declared.Message.{Message}
 use Rattle.model.specs.declared.Event.{Event}
 use Rattle.model.specs.declared.Answer.{Answer}
-use Rattle.model.specs.declared.Answer.the-variants.{Ok, Learnt, Decided, Refused}
+use Rattle.model.specs.declared.Answer.the-variants.{Refused}
+use Rattle.machine.specs.Calls.{eventOf, saidNo, saidSet}
 use Rattle.machine.specs.Stepping.{Left, stepOf, Fits}
-
--- ---- events, three numbers each
-
--- event k: code, a, b
-abbrev pub eventOf : List ℕ → ℕ → Event
-eventOf ns k = record { code = getD ns (3 * k) 0; a = getD ns (3 * k + 1) 0; b = getD ns (3 * k + 2) 0 }
-
--- the first n of them
-abbrev pub eventsIn : List ℕ → ℕ → List Event
-eventsIn ns n = map (eventOf ns) (from 0 n)
-
--- ---- the log, two numbers an answer
-
--- 0 for ok, a refusal's number, 256 and the learner, 512 and the proposer
-unfoldable pub saidNo : Answer → ℕ
-saidNo Ok = 0
-saidNo (Learnt l v) = 256 + l .0
-saidNo (Decided p v) = 512 + p .0
-saidNo (Refused n) = n
-
--- the set learnt or decided, scan 0 the lowest bit
-unfoldable pub saidSet : Answer → ℕ
-saidSet Ok = 0
-saidSet (Learnt l v) = v .bits
-saidSet (Decided p v) = v .bits
-saidSet (Refused n) = 0
 
 -- answer k noted
 abbrev pub noted : List ℕ → ℕ → Answer → List ℕ
@@ -72,6 +47,12 @@ driven z ps acs ls t ns log n = ranTo z ns (record { proposers = ps; acceptors =
 -- where there are events to run, the records fit, and there are numbers and room for all of them
 abbrev pub Drives : Sizes → List Proposer → List Acceptor → List Learner → List Message → List ℕ → List ℕ → ℕ → Type 0
 Drives z ps acs ls t ns log n = 0 < n → Fits z ps acs ls t × ((3 * n ≤ length ns) × (2 * n ≤ length log))
+
+-- what is left is that of a run
+abbrev pub Drove : Ran → List Proposer → List Acceptor → List Learner → List Message → List ℕ → Type 0
+Drove r ps acs ls t log =
+    (ps ≡ r .proposers)
+    × ((acs ≡ r .acceptors) × ((ls ≡ r .learners) × ((t ≡ r .slots) × (log ≡ r .log))))
 
 -- ---- one event, done n times
 

@@ -1,4 +1,4 @@
--- The table searched for free slots, as the code searches it.
+-- The table searched for free slots, as the code searches it: contracts of private functions.
 use mathlib.Core.Path.{_≡_}
 use mathlib.Core.Bool.{Bool, true, _&&_}
 use mathlib.Core.List.{List, [], _∷_}

@@ -1,4 +1,4 @@
--- One event on the records that a caller lends, as the code does it: fetch, decide, write back.
+-- One event on the records that a caller lends, as the code does it: fetch, decide, write back. Contracts of private functions.
 use mathlib.Core.Path.{_≡_}
 use mathlib.Core.Bool.{Bool, true}
 use mathlib.Core.List.{List}
@@ -79,6 +79,12 @@ pub record Left : Type 0 where
   pub acceptors : List Acceptor
   pub learners : List Learner
   pub slots : List Message
+
+-- what is answered and what is left
+abbrev pub Gives : Left → Answer → List Proposer → List Acceptor → List Learner → List Message → Type 0
+Gives l r ps acs ls t =
+    (r ≡ l .answer)
+    × ((ps ≡ l .proposers) × ((acs ≡ l .acceptors) × ((ls ≡ l .learners) × (t ≡ l .slots))))
 
 module _ (z : Sizes) (e : Event) (ps : List Proposer) (acs : List Acceptor) (ls : List Learner) (t : List Message) where
   abbrev pub theMessage : Message

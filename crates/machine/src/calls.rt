@@ -4,7 +4,8 @@ ghost use mathlib.Core.Bool.{_&&_};
 ghost use Rattle.sizes.specs.Sizes.{sizesInRange};
 ghost use Rattle.model.specs.Rules.{accepts, answering};
 ghost use Rattle.machine.specs.Slots.{takenSlot};
-ghost use Rattle.machine.specs.Calls.{lent, saidOf, FreshCall, StepCall, SaidCall, RunCall, WholeRunCall, lengthsAre, soundOf, soundRunOf, turnsOf, sizedNo, enoughOf, eventsNo, wholeNo};
+ghost use Rattle.machine.specs.Calls.{lent, saidOf, FreshCall, StepCall, SaidCall, RunCall, WholeRunCall, enoughOf};
+ghost use Rattle.machine.specs.Counting.{lengthsAre, soundOf, soundRunOf, turnsOf, sizedNo, eventsNo, wholeNo};
 use crate::lent::acceptors_in_range;
 use crate::lent::fill_acceptors;
 use crate::lent::fill_learners;
@@ -104,7 +105,8 @@ pub extern "C" fn machine_fresh(
     ls: &mut [Learner],
     t: &mut [Message],
 ) -> u8
-    ensures { λ r. ⌜ FreshCall z (lent (now (ps .entry)) (now (acs .entry)) (now (ls .entry)) (now (t .entry))) r (lent (now (ps .exit)) (now (acs .exit)) (now (ls .exit)) (now (t .exit))) ⌝ }
+    ensures { λ r. ⌜ FreshCall z (lent (now (ps .entry)) (now (acs .entry)) (now (ls .entry)) (now (t .entry))) r
+        (lent (now (ps .exit)) (now (acs .exit)) (now (ls .exit)) (now (t .exit))) ⌝ }
 {
     let refusal = fresh_no(z, ps.len(), acs.len(), ls.len(), t.len());
     let p = proposers_if(refusal, z);
@@ -137,7 +139,8 @@ pub fn single_step(
     t: &mut [Message],
     e: Event,
 ) -> Answer
-    ensures { λ r. ⌜ StepCall z (lent (now (ps .entry)) (now (acs .entry)) (now (ls .entry)) (now (t .entry))) e r (lent (now (ps .exit)) (now (acs .exit)) (now (ls .exit)) (now (t .exit))) ⌝ }
+    ensures { λ r. ⌜ StepCall z (lent (now (ps .entry)) (now (acs .entry)) (now (ls .entry)) (now (t .entry))) e r
+        (lent (now (ps .exit)) (now (acs .exit)) (now (ls .exit)) (now (t .exit))) ⌝ }
 {
     let sized = sized(z, ps.len(), acs.len(), ls.len(), t.len());
     let p = proposers_in_range(ps, z);
@@ -174,7 +177,8 @@ pub extern "C" fn machine_step(
     t: &mut [Message],
     e: Event,
 ) -> Said
-    ensures { λ r. ⌜ SaidCall z (lent (now (ps .entry)) (now (acs .entry)) (now (ls .entry)) (now (t .entry))) e r (lent (now (ps .exit)) (now (acs .exit)) (now (ls .exit)) (now (t .exit))) ⌝ }
+    ensures { λ r. ⌜ SaidCall z (lent (now (ps .entry)) (now (acs .entry)) (now (ls .entry)) (now (t .entry))) e r
+        (lent (now (ps .exit)) (now (acs .exit)) (now (ls .exit)) (now (t .exit))) ⌝ }
 {
     let answer = single_step(z, ps, acs, ls, t, e);
     said_of(answer)
@@ -222,7 +226,9 @@ pub extern "C" fn machine_run(
     log: &mut [u64],
     n: u16,
 ) -> u8
-    ensures { λ r. ⌜ RunCall z (lent (now (ps .entry)) (now (acs .entry)) (now (ls .entry)) (now (t .entry))) (now (events .entry)) n (now (log .entry)) r (lent (now (ps .exit)) (now (acs .exit)) (now (ls .exit)) (now (t .exit))) (now (log .exit)) ⌝ }
+    ensures { λ r. ⌜ RunCall z (lent (now (ps .entry)) (now (acs .entry)) (now (ls .entry)) (now (t .entry)))
+        (now (events .entry)) n (now (log .entry)) r
+        (lent (now (ps .exit)) (now (acs .exit)) (now (ls .exit)) (now (t .exit))) (now (log .exit)) ⌝ }
 {
     let sized = sized(z, ps.len(), acs.len(), ls.len(), t.len());
     let p = proposers_in_range(ps, z);

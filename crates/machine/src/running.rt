@@ -2,7 +2,9 @@
 ghost use mathlib.Core.Path.{_≡_};
 ghost use Prim.Native.Nat.{_+_, _*_, _<_};
 ghost use lib.ListN.{length};
-ghost use Rattle.machine.specs.Running.{eventOf, saidNo, saidSet, noted, driven, Drives, timesOf, Repeats};
+ghost use Rattle.machine.specs.Stepping.{Gives};
+ghost use Rattle.machine.specs.Running.{noted, driven, Drives, Drove, timesOf, Repeats};
+ghost use Rattle.machine.specs.Calls.{eventOf, saidNo, saidSet};
 use crate::step::step;
 use model::Acceptor;
 use model::Answer;
@@ -69,7 +71,9 @@ pub fn drive(
     n: usize,
 )
     requires { ⌜ Drives z (now ps) (now acs) (now ls) (now t) (now events) (now log) n ⌝ }
-    ensures { λ _. ⌜ (now (ps .exit) ≡ driven z (now (ps .entry)) (now (acs .entry)) (now (ls .entry)) (now (t .entry)) (now (events .entry)) (now (log .entry)) n .proposers) × ((now (acs .exit) ≡ driven z (now (ps .entry)) (now (acs .entry)) (now (ls .entry)) (now (t .entry)) (now (events .entry)) (now (log .entry)) n .acceptors) × ((now (ls .exit) ≡ driven z (now (ps .entry)) (now (acs .entry)) (now (ls .entry)) (now (t .entry)) (now (events .entry)) (now (log .entry)) n .learners) × ((now (t .exit) ≡ driven z (now (ps .entry)) (now (acs .entry)) (now (ls .entry)) (now (t .entry)) (now (events .entry)) (now (log .entry)) n .slots) × (now (log .exit) ≡ driven z (now (ps .entry)) (now (acs .entry)) (now (ls .entry)) (now (t .entry)) (now (events .entry)) (now (log .entry)) n .log)))) ⌝ }
+    ensures { λ _. ⌜ Drove
+        (driven z (now (ps .entry)) (now (acs .entry)) (now (ls .entry)) (now (t .entry)) (now (events .entry)) (now (log .entry)) n)
+        (now (ps .exit)) (now (acs .exit)) (now (ls .exit)) (now (t .exit)) (now (log .exit)) ⌝ }
 {
     let mut k: usize = 0;
     while k < n {
@@ -91,7 +95,8 @@ pub fn repeat(
     n: u8,
 ) -> Answer
     requires { ⌜ Repeats z (now ps) (now acs) (now ls) (now t) n ⌝ }
-    ensures { λ r. ⌜ (r ≡ timesOf z e (now (ps .entry)) (now (acs .entry)) (now (ls .entry)) (now (t .entry)) n .answer) × ((now (ps .exit) ≡ timesOf z e (now (ps .entry)) (now (acs .entry)) (now (ls .entry)) (now (t .entry)) n .proposers) × ((now (acs .exit) ≡ timesOf z e (now (ps .entry)) (now (acs .entry)) (now (ls .entry)) (now (t .entry)) n .acceptors) × ((now (ls .exit) ≡ timesOf z e (now (ps .entry)) (now (acs .entry)) (now (ls .entry)) (now (t .entry)) n .learners) × (now (t .exit) ≡ timesOf z e (now (ps .entry)) (now (acs .entry)) (now (ls .entry)) (now (t .entry)) n .slots)))) ⌝ }
+    ensures { λ r. ⌜ Gives (timesOf z e (now (ps .entry)) (now (acs .entry)) (now (ls .entry)) (now (t .entry)) n) r
+        (now (ps .exit)) (now (acs .exit)) (now (ls .exit)) (now (t .exit)) ⌝ }
 {
     let mut answer = Answer::Refused(1);
     let mut k: u8 = 0;

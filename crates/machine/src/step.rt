@@ -10,7 +10,7 @@ ghost use Rattle.sizes.specs.Sizes.{sizesInRange};
 ghost use Rattle.model.specs.declared.Answer.the-variants.{Ok};
 ghost use Rattle.decisions.specs.Change.{changeOf, slotAfter};
 ghost use Rattle.decisions.specs.Refusals.{testNo};
-ghost use Rattle.machine.specs.Stepping.{within, partyOf, decideOf, needOf, finishOf, replyOf, Fits, stepOf};
+ghost use Rattle.machine.specs.Stepping.{within, partyOf, decideOf, needOf, finishOf, replyOf, Fits, Gives, stepOf};
 ghost use Rattle.machine.specs.Roles.{armOfKind, armOfRole, armOf, stepAt, earAt, hears, earSays, earNo, listenOf, OfTable, OfProposer, OfAcceptor, OfLearner, OfTold};
 use crate::lent::Ear;
 use crate::lent::load_acceptor;
@@ -652,7 +652,8 @@ pub fn step(
     e: Event,
 ) -> Answer
     requires { ⌜ Fits z (now ps) (now acs) (now ls) (now t) ⌝ }
-    ensures { λ r. ⌜ (r ≡ stepOf z e (now (ps .entry)) (now (acs .entry)) (now (ls .entry)) (now (t .entry)) .answer) × ((now (ps .exit) ≡ stepOf z e (now (ps .entry)) (now (acs .entry)) (now (ls .entry)) (now (t .entry)) .proposers) × ((now (acs .exit) ≡ stepOf z e (now (ps .entry)) (now (acs .entry)) (now (ls .entry)) (now (t .entry)) .acceptors) × ((now (ls .exit) ≡ stepOf z e (now (ps .entry)) (now (acs .entry)) (now (ls .entry)) (now (t .entry)) .learners) × (now (t .exit) ≡ stepOf z e (now (ps .entry)) (now (acs .entry)) (now (ls .entry)) (now (t .entry)) .slots)))) ⌝ }
+    ensures { λ r. ⌜ Gives (stepOf z e (now (ps .entry)) (now (acs .entry)) (now (ls .entry)) (now (t .entry))) r
+        (now (ps .exit)) (now (acs .exit)) (now (ls .exit)) (now (t .exit)) ⌝ }
 {
     let k = slot_at(z, e);
     let m = load_message(t, k);

@@ -13,7 +13,7 @@ use Rattle.text.specs.Digits.{decimalOf, hexOf}
 use Rattle.model.specs.Records.{fresh}
 use Rattle.model.specs.Table.{from}
 use Rattle.model.proofs.Computing.{theStep, settledAnswers, answers-settled}
-use Rattle.machine.specs.Running.{eventsIn}
+use Rattle.machine.specs.Calls.{eventsIn}
 use Rattle.printer.specs.Text.{lines, linesFrom, okCount, refusedCount, runText}
 use Rattle.printer.specs.Printing.{textOfRead, text}
 

@@ -28,8 +28,7 @@ use Rattle.model.specs.declared.Answer.{Answer}
 use Rattle.model.specs.declared.Answer.the-variants.{Ok, Learnt, Decided, Refused}
 use Rattle.model.proofs.Lists.{All, none, also}
 use Rattle.model.proofs.Answers.{Named, namesNone, namesLearner, namesProposer, namesRefusal, all-named}
-use Rattle.machine.specs.Running.{eventOf, eventsIn}
-use Rattle.machine.specs.Calls.{hasNumbers, logged, logAfterWholeRun}
+use Rattle.machine.specs.Calls.{eventOf, eventsIn, hasNumbers, logged, logAfterWholeRun}
 use Rattle.sizes.proofs.SizeLaws.{bounds}
 use Rattle.machine.proofs.RunLaws.{length-from, length-answers}
 use Rattle.printer.specs.Log.{answersIn}

@@ -10,8 +10,7 @@ use Rattle.model.proofs.Lists.{All, none, also}
 use Rattle.model.specs.Table.{from}
 use Rattle.model.specs.declared.Answer.{Answer}
 use Rattle.model.specs.declared.Answer.the-variants.{Ok, Learnt, Decided, Refused}
-use Rattle.machine.specs.Running.{saidNo, saidSet}
-use Rattle.machine.specs.Calls.{said}
+use Rattle.machine.specs.Calls.{saidNo, saidSet, said}
 use Rattle.printer.specs.Log.{readAnswerOf, answerAt, answersIn}
 
 -- an answer that a log can say: a party below 256, a refusal from 1 to 255

@@ -19,7 +19,7 @@ use Rattle.model.specs.declared.Answer.{Answer}
 use Rattle.model.specs.declared.Answer.the-variants.{Ok, Learnt, Decided, Refused}
 use Rattle.model.proofs.Answers.{Says, isFine, isLearnt, isDecided, isRefused, answer-says}
 use Rattle.model.proofs.Safety.{safe}
-use Rattle.machine.specs.Running.{eventOf, eventsIn}
+use Rattle.machine.specs.Calls.{eventOf, eventsIn}
 use Rattle.printer.specs.Printing.{textOfRead}
 use Rattle.printer.specs.Telling.{numbersIn, IsSo, Tells}
 

@@ -7,7 +7,7 @@ use Rattle.sizes.specs.declared.Sizes.{Sizes}
 use Rattle.schedule.specs.Schedule.{headerOf, readSchedule}
 use Rattle.model.specs.Records.{fresh}
 use Rattle.model.specs.Step.{answers}
-use Rattle.machine.specs.Running.{eventsIn}
+use Rattle.machine.specs.Calls.{eventsIn}
 use Rattle.printer.specs.Text.{runText, refusedText}
 
 -- the text of a run of n events, three numbers each, from fresh

@@ -15,8 +15,7 @@ use Rattle.model.specs.Safety.{moment, learnt, Received}
 use Rattle.model.specs.declared.Event.{Event}
 use Rattle.model.proofs.Computing.{theSets, theStep, settledRun, run-settled}
 use Rattle.model.proofs.InRange.{step-in-range}
-use Rattle.machine.specs.Running.{eventOf, eventsIn}
-use Rattle.machine.specs.Calls.{FreshCall, RunCall, runNo, afterRun, logAfterRun}
+use Rattle.machine.specs.Calls.{eventOf, eventsIn, FreshCall, RunCall, runNo, afterRun, logAfterRun}
 use Rattle.machine.specs.Histories.{History, madeFresh, stepped, ran, Relies}
 use Rattle.machine.proofs.AnswerNumbers.{step-number}
 use Rattle.machine.proofs.Histories.{calls-safe}
@@ -52,7 +51,7 @@ run-fine : 0 ≡ runNo small afterFirst others 6 log
 run-fine = rw (step-in-range small (fresh small) first fresh-in-range)
 
 ranOthers : RunCall small afterFirst others 6 log 0 afterAll (logAfterRun small afterFirst others 6 log)
-ranOthers = (run-fine, (refl, (refl, (refl, (refl, refl)))))
+ranOthers = (run-fine, ((refl, (refl, (refl, refl))), refl))
 
 firstDone : History small (first ∷ []) afterFirst
 firstDone = stepped [] (fresh small) afterFirst first (step small (fresh small) first .answer) (madeFresh (fresh small) (fresh small) made) (refl, (step-number small (fresh small) first, (refl, (refl, (refl, refl)))))

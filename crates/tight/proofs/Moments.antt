@@ -16,8 +16,7 @@ use Rattle.model.specs.declared.Event.{Event}
 use Rattle.model.specs.declared.Answer.{Answer}
 use Rattle.model.specs.declared.Answer.the-variants.{Ok}
 use Rattle.model.proofs.Moments.{last}
-use Rattle.machine.specs.Running.{eventsIn}
-use Rattle.machine.specs.Calls.{said, logged, runNo, StepCall, RunCall}
+use Rattle.machine.specs.Calls.{eventsIn, said, logged, runNo, StepCall, RunCall}
 use Rattle.machine.specs.Histories.{doneBy, History}
 use Rattle.machine.proofs.RunLaws.{length-answers}
 use Rattle.machine.proofs.Histories.{calls-safe}
@@ -90,7 +89,7 @@ module _ (z : Sizes) (es : List Event) (s : State) (h : History z es s) where
       → log′ ≡ logged (take (length (doneBy r ns n)) (drop (length es) (answers z (fresh z) fs))) log
   logged-then ns n log log′ r u c g =
       let ds = doneBy r ns n in
-      c .1 .1 .1 .1 .1
+      c .1 .1
       ∙ log-by z s ns n log (eqb (runNo z s ns n log) 0)
       ∙ ap (λ (k : ℕ). logged (answers z s (doneBy k ns n)) log) (sym (c .0))
       ∙ ap (λ (ws : List Answer). logged ws log)

@@ -33,13 +33,7 @@ one-said z s e c c′ = (one-value (c .0) (c′ .0), one-state (c .1) (c′ .1))
 
 pub one-run : (z : Sizes) (s : State) (ns : List ℕ) (n : ℕ) (log : List ℕ) {r r′ : ℕ} {t t′ : State} {l l′ : List ℕ}
     → RunCall z s ns n log r t l → RunCall z s ns n log r′ t′ l′ → (r ≡ r′) × ((t ≡ t′) × (l ≡ l′))
-one-run z s ns n log c c′ = (
-  one-value (c .0) (c′ .0),
-  (
-    one-state (c .1 .0, (c .1 .1 .0, (c .1 .1 .1 .0, c .1 .1 .1 .1 .0))) (c′ .1 .0, (c′ .1 .1 .0, (c′ .1 .1 .1 .0, c′ .1 .1 .1 .1 .0))),
-    one-value (c .1 .1 .1 .1 .1) (c′ .1 .1 .1 .1 .1),
-  ),
-)
+one-run z s ns n log c c′ = (one-value (c .0) (c′ .0), (one-state (c .1 .0) (c′ .1 .0), one-value (c .1 .1) (c′ .1 .1)))
 
 pub one-whole-run : (z : Sizes) (ns : List ℕ) (n : ℕ) (log : List ℕ) {r r′ : ℕ} {l l′ : List ℕ}
     → WholeRunCall z ns n log r l → WholeRunCall z ns n log r′ l′ → (r ≡ r′) × (l ≡ l′)

@@ -30,8 +30,7 @@ use Rattle.model.proofs.Lists.{All, none, also}
 use Rattle.model.proofs.Answers.{Named, all-named}
 use Rattle.model.proofs.Computing.{theSets, theStep, settledRun, run-settled}
 use Rattle.model.proofs.Examples.{seven-answers}
-use Rattle.machine.specs.Running.{eventsIn}
-use Rattle.machine.specs.Calls.{hasNumbers, logged, runNo, afterRun, logAfterRun, wholeRunNo, logAfterWholeRun}
+use Rattle.machine.specs.Calls.{eventsIn, hasNumbers, logged, runNo, afterRun, logAfterRun, wholeRunNo, logAfterWholeRun}
 use Rattle.printer.specs.Log.{answersIn}
 use Rattle.printer.specs.Text.{lines, linesFrom, okCount, refusedCount, endWith, endLine, runText, putAnswer, afterPut}
 use Rattle.printer.specs.Printing.{textOfRead, text}
@@ -48,7 +47,7 @@ pub step-kept : StepKept step
 step-kept z s e = (refl, (step-number z s e, (refl, (refl, (refl, refl)))))
 
 pub run-kept : RunKept (λ z s ns n log. record { no = runNo z s ns n log; state = afterRun z s ns n log; log = logAfterRun z s ns n log })
-run-kept z s ns n log = (refl, (refl, (refl, (refl, (refl, refl)))))
+run-kept z s ns n log = (refl, ((refl, (refl, (refl, refl))), refl))
 
 pub whole-run-kept : WholeRunKept (λ z ns n log. record { no = wholeRunNo z ns n log; log = logAfterWholeRun z ns n log })
 whole-run-kept z ns n log = (refl, refl)
@@ -163,14 +162,14 @@ is-alike e = record { same = ap (map _) e }
 says-seven : {ws : List Answer} → Says ws → Alike ws seven
 says-seven (Says.bySteps f k) = is-alike (steps-say f k small (fresh small) (eventsIn numbers 7) ∙ run-says)
 says-seven (Says.byRun f k log h) =
-    is-alike (ap (λ (l : List ℕ). answersIn l 7) (k small (fresh small) numbers 7 log .1 .1 .1 .1 .1 ∙ run-log log h) ∙ logged-back log h)
+    is-alike (ap (λ (l : List ℕ). answersIn l 7) (k small (fresh small) numbers 7 log .1 .1 ∙ run-log log h) ∙ logged-back log h)
 says-seven (Says.byWholeRun f k log h) = is-alike (ap (λ (l : List ℕ). answersIn l 7) (k small numbers 7 log .1 ∙ whole-log log h) ∙ logged-back log h)
 says-seven (Says.byText f k buffer ws a b c e) = one-text small all-seven ws a b c (sym (run-shown f k buffer example ws a b c e) ∙ example-says) .0
 
 leaves-run : {t : State} → LeftBehind t → t ≡ run small (fresh small) (eventsIn numbers 7)
 leaves-run (LeftBehind.bySteps f k) = steps-leave f k small (fresh small) (eventsIn numbers 7)
 leaves-run (LeftBehind.byRun f k log h) =
-    one-run small (fresh small) numbers 7 log (k small (fresh small) numbers 7 log) (refl, (refl, (refl, (refl, (refl, refl))))) .1 .0 ∙ run-state log h
+    one-run small (fresh small) numbers 7 log (k small (fresh small) numbers 7 log) (run-kept small (fresh small) numbers 7 log) .1 .0 ∙ run-state log h
 
 -- the learner has learnt scan 0: not at first, nor after the first event, but at the end
 learnt₀ : State → Bool

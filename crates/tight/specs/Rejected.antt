@@ -10,8 +10,7 @@ use Rattle.model.specs.Records.{State, fresh}
 use Rattle.model.specs.Step.{Stepped, run}
 use Rattle.model.specs.declared.Event.{Event}
 use Rattle.model.specs.declared.Answer.{Answer}
-use Rattle.machine.specs.Running.{eventsIn}
-use Rattle.machine.specs.Calls.{StepCall, RunCall, WholeRunCall}
+use Rattle.machine.specs.Calls.{eventsIn, StepCall, RunCall, WholeRunCall}
 use Rattle.printer.specs.Log.{answersIn}
 use Rattle.printer.specs.Text.{linesFrom, okCount, refusedCount, endWith, endLine, putAnswer, afterPut}
 use Rattle.printer.specs.Printing.{text}

@@ -40,7 +40,8 @@ use mathlib.Core.Bool.{Bool, _&&_}
 use Rattle.sizes.specs.Sizes.{sizesInRange}
 use Rattle.model.specs.Ranges.{all, proposerInRange, acceptorInRange, learnerInRange, messageInRange}
 use Rattle.machine.specs.Running.{Ran, driven, Drives}
-use Rattle.machine.specs.Calls.{lent as lent-as, lengthsAre, eventsNo, soundRunOf, turnsOf, afterRun, logAfterRun}
+use Rattle.machine.specs.Calls.{lent as lent-as, afterRun, logAfterRun}
+use Rattle.machine.specs.Counting.{lengthsAre, eventsNo, soundRunOf, turnsOf}
 use Rattle.machine.proofs.Frees.{full, bare, dies-apart, frees-all}
 use Rattle.machine.proofs.Relending.{Slice, listAt}
 use Rattle.machine.proofs.CallsByValue.{calls-value}
@@ -234,7 +235,7 @@ module _ {M : Type 1} (𝓤 : URA M) (H : Heap 𝓤) (A : Atoms 𝓤) (W : Given
   exits : Is u8 k (uint-vals w8 k) → length (r .proposers) ≡ n₀ → length (r .acceptors) ≡ n₁ → length (r .learners) ≡ n₂ → length (r .slots) ≡ n₃ → length (r .log) ≡ n₅ → ent 𝓤 (⋆ 𝓤 H A (‵ (Slice Pr.the-row κ₀ γ₀ b₀ o₀ n₀ (r .proposers)) ∷ ‵ (flft κ₀ q₀) ∷ ‵ (Slice Ac.the-row κ₁ γ₁ b₁ o₁ n₁ (r .acceptors)) ∷ ‵ (flft κ₁ q₁) ∷ ‵ (Slice Le.the-row κ₂ γ₂ b₂ o₂ n₂ (r .learners)) ∷ ‵ (flft κ₂ q₂) ∷ ‵ (Slice Ms.the-row κ₃ γ₃ b₃ o₃ n₃ (r .slots)) ∷ ‵ (flft κ₃ q₃) ∷ ‵ (ShrSlice (named 4) κ₄ u64 .own (listAt u64 b₄ o₄ events γ₄) (s₄ ∷ [])) ∷ ‵ (flft κ₄ q₄) ∷ ‵ (Slice u64 κ₅ γ₅ b₅ o₅ n₅ (r .log)) ∷ ‵ (flft κ₅ q₅) ∷ [])) (Post (vint w8 k))
   exits is e₀ e₁ e₂ e₃ e₅ =
       qed W (‵ (Slice Pr.the-row κ₀ γ₀ b₀ o₀ n₀ (r .proposers)) ∷ ‵ (flft κ₀ q₀) ∷ ‵ (Slice Ac.the-row κ₁ γ₁ b₁ o₁ n₁ (r .acceptors)) ∷ ‵ (flft κ₁ q₁) ∷ ‵ (Slice Le.the-row κ₂ γ₂ b₂ o₂ n₂ (r .learners)) ∷ ‵ (flft κ₂ q₂) ∷ ‵ (Slice Ms.the-row κ₃ γ₃ b₃ o₃ n₃ (r .slots)) ∷ ‵ (flft κ₃ q₃) ∷ ‵ (ShrSlice (named 4) κ₄ u64 .own (listAt u64 b₄ o₄ events γ₄) (s₄ ∷ [])) ∷ ‵ (flft κ₄ q₄) ∷ ‵ (Slice u64 κ₅ γ₅ b₅ o₅ n₅ (r .log)) ∷ ‵ (flft κ₅ q₅) ∷ []) ∵
-      suffices ! _ (ends-at 𝓤 H A this.ended stayed (this.clauses 𝓤 H A mem run) W (((κ₀, (κ₁, (κ₂, (κ₃, (κ₄, (κ₅, tt)))))), (q₀, (q₁, (q₂, (q₃, (q₄, (q₅, tt)))))), tt, (z, (listAt Pr.the-row b₀ o₀ ps γ₀, (listAt Ac.the-row b₁ o₁ acs γ₁, (listAt Le.the-row b₂ o₂ ls γ₂, (listAt Ms.the-row b₃ o₃ t γ₃, (listAt u64 b₄ o₄ events γ₄, (listAt u64 b₅ o₅ log γ₅, (n, tt)))))))), at), tt) (vint w8 k) k (tt, ((r .proposers), ((r .acceptors), ((r .learners), ((r .slots), (tt, ((r .log), (tt, tt)))))))) (tt, (e₀, (e₁, (e₂, (e₃, (tt, (e₅, (tt, tt))))))))) $ says ! (run-refused z ps acs ls t events log n, (ends .proposers, (ends .acceptors, (ends .learners, (ends .slots, ends .log))))) $
+      suffices ! _ (ends-at 𝓤 H A this.ended stayed (this.clauses 𝓤 H A mem run) W (((κ₀, (κ₁, (κ₂, (κ₃, (κ₄, (κ₅, tt)))))), (q₀, (q₁, (q₂, (q₃, (q₄, (q₅, tt)))))), tt, (z, (listAt Pr.the-row b₀ o₀ ps γ₀, (listAt Ac.the-row b₁ o₁ acs γ₁, (listAt Le.the-row b₂ o₂ ls γ₂, (listAt Ms.the-row b₃ o₃ t γ₃, (listAt u64 b₄ o₄ events γ₄, (listAt u64 b₅ o₅ log γ₅, (n, tt)))))))), at), tt) (vint w8 k) k (tt, ((r .proposers), ((r .acceptors), ((r .learners), ((r .slots), (tt, ((r .log), (tt, tt)))))))) (tt, (e₀, (e₁, (e₂, (e₃, (tt, (e₅, (tt, tt))))))))) $ says ! (run-refused z ps acs ls t events log n, ((ends .proposers, (ends .acceptors, (ends .learners, ends .slots))), ends .log)) $
       nothing ! $ move ! (12 ∷ 0 ∷ []) $ join ! $ move ! (10 ∷ 0 ∷ []) $ join ! $ move ! (8 ∷ 0 ∷ []) $ join ! $ move ! (6 ∷ 0 ∷ []) $ join ! $ move ! (4 ∷ 0 ∷ []) $ join ! $ move ! (2 ∷ 0 ∷ []) $ join ! $ frame ! $
       nothing ! $ owned ! u16 (Is u16) (uint-makes 𝓤 H A W w16) n _ gn $ fjoin ! $ move ! (6 ∷ 0 ∷ []) $ fjoin ! $ move ! (5 ∷ 0 ∷ []) $ fjoin ! $ move ! (4 ∷ 0 ∷ []) $ fjoin ! $ move ! (3 ∷ 0 ∷ []) $ fjoin ! $ move ! (2 ∷ 0 ∷ []) $ fjoin ! $ move ! (1 ∷ 0 ∷ []) $ fjoin ! $
       owned ! Sz.the-row (Is Sz.the-row) makesSz z _ gz $ fjoin ! $ frame ! $ owned ! u8 (Is u8) (uint-makes 𝓤 H A W w8) k _ is $ done !

@@ -43,7 +43,8 @@ use Rattle.model.specs.Ranges.{all, proposerInRange, acceptorInRange, learnerIn
 use Rattle.model.specs.Step.{answerNo, step}
 use Rattle.machine.specs.Stepping.{Left}
 use Rattle.machine.specs.Running.{timesOf, Repeats}
-use Rattle.machine.specs.Calls.{lent as lent-as, lengthsAre, soundOf, turnsOf}
+use Rattle.machine.specs.Calls.{lent as lent-as}
+use Rattle.machine.specs.Counting.{lengthsAre, soundOf, turnsOf}
 use Rattle.machine.proofs.Frees.{full, bare, dies-apart, frees-all}
 use Rattle.machine.proofs.Relending.{Slice, listAt}
 use Rattle.machine.proofs.CallsByValue.{calls-value}

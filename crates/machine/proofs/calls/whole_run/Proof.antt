@@ -41,7 +41,8 @@ use denote.Exit.{yes}
 use Rattle.model.specs.Records.{freshProposer, freshAcceptor, freshLearner, freeSlot}
 use Rattle.machine.specs.Slots.{takenSlot}
 use Rattle.machine.specs.Running.{Ran, driven, Drives}
-use Rattle.machine.specs.Calls.{eventsNo, wholeRunNo, turnsOf}
+use Rattle.machine.specs.Calls.{wholeRunNo}
+use Rattle.machine.specs.Counting.{eventsNo, turnsOf}
 use Rattle.machine.proofs.Frees.{full, bare, dies-apart, frees-all}
 use Rattle.machine.proofs.Relending.{Slice, listAt}
 use Rattle.machine.proofs.CallsByValue.{calls-value}

@@ -39,7 +39,8 @@ use denote.Triple.Table.{entered, cited}
 use denote.Triple.Walked.{says, needs, Stays, stay-none, stay-none-slice, stay-slice, walkOf, goes-none, goes-none-slice, goes-slice, Walks, ends-at, walked, walk-meets}
 use denote.Exit.{yes}
 use Rattle.machine.specs.Stepping.{Left, stepOf, Fits}
-use Rattle.machine.specs.Running.{eventOf, noted, Ran, onward, ranTo, driven, Drives}
+use Rattle.machine.specs.Running.{noted, Ran, onward, ranTo, driven, Drives}
+use Rattle.machine.specs.Calls.{eventOf}
 use Rattle.machine.proofs.Frees.{full, bare, dies-apart, frees-all}
 use Rattle.machine.proofs.Relending.{Slice, listAt}
 use Rattle.machine.proofs.CallsWithSlices.{passed, lent, handed, calls}

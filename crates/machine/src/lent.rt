@@ -110,7 +110,7 @@ fn acceptor_by(t: &[Acceptor], i: usize) -> Acceptor
     t[i]
 }
 
-pub fn load_message(t: &[Message], i: usize) -> Message
+pub(crate) fn load_message(t: &[Message], i: usize) -> Message
     requires { ⌜ i < length (now t) ⌝ }
     ensures { λ r. ⌜ r ≡ getD (now (t .entry)) i freeSlot ⌝ }
 {
@@ -131,7 +131,7 @@ fn put_acceptor(t: &mut [Acceptor], i: usize, m: Acceptor)
     t[i] = m;
 }
 
-pub fn store_message(t: &mut [Message], i: usize, m: Message)
+pub(crate) fn store_message(t: &mut [Message], i: usize, m: Message)
     requires { ⌜ i < length (now t) ⌝ }
     ensures { λ _. ⌜ now (t .exit) ≡ set (now (t .entry)) i m ⌝ }
 {
@@ -158,7 +158,7 @@ fn learner_index(i: LearnerId) -> usize
     i.0 as usize
 }
 
-pub fn load_proposer(t: &[Proposer], i: ProposerId) -> Proposer
+pub(crate) fn load_proposer(t: &[Proposer], i: ProposerId) -> Proposer
     requires { ⌜ i .0 < length (now t) ⌝ }
     ensures { λ r. ⌜ r ≡ getD (now (t .entry)) (i .0) freshProposer ⌝ }
 {
@@ -166,7 +166,7 @@ pub fn load_proposer(t: &[Proposer], i: ProposerId) -> Proposer
     proposer_by(t, at)
 }
 
-pub fn store_proposer(t: &mut [Proposer], i: ProposerId, m: Proposer)
+pub(crate) fn store_proposer(t: &mut [Proposer], i: ProposerId, m: Proposer)
     requires { ⌜ i .0 < length (now t) ⌝ }
     ensures { λ _. ⌜ now (t .exit) ≡ set (now (t .entry)) (i .0) m ⌝ }
 {
@@ -174,7 +174,7 @@ pub fn store_proposer(t: &mut [Proposer], i: ProposerId, m: Proposer)
     put_proposer(t, at, m)
 }
 
-pub fn load_acceptor(t: &[Acceptor], i: AcceptorId) -> Acceptor
+pub(crate) fn load_acceptor(t: &[Acceptor], i: AcceptorId) -> Acceptor
     requires { ⌜ i .0 < length (now t) ⌝ }
     ensures { λ r. ⌜ r ≡ getD (now (t .entry)) (i .0) freshAcceptor ⌝ }
 {
@@ -182,7 +182,7 @@ pub fn load_acceptor(t: &[Acceptor], i: AcceptorId) -> Acceptor
     acceptor_by(t, at)
 }
 
-pub fn store_acceptor(t: &mut [Acceptor], i: AcceptorId, m: Acceptor)
+pub(crate) fn store_acceptor(t: &mut [Acceptor], i: AcceptorId, m: Acceptor)
     requires { ⌜ i .0 < length (now t) ⌝ }
     ensures { λ _. ⌜ now (t .exit) ≡ set (now (t .entry)) (i .0) m ⌝ }
 {
@@ -190,7 +190,7 @@ pub fn store_acceptor(t: &mut [Acceptor], i: AcceptorId, m: Acceptor)
     put_acceptor(t, at, m)
 }
 
-pub fn load_ear(t: &[Learner], i: LearnerId, p: ProposerId) -> Ear
+pub(crate) fn load_ear(t: &[Learner], i: LearnerId, p: ProposerId) -> Ear
     requires { ⌜ i .0 < length (now t) ⌝ }
     ensures { λ r. ⌜ r ≡ earOf (getD (now (t .entry)) (i .0) freshLearner) (p .0) ⌝ }
 {
@@ -198,7 +198,7 @@ pub fn load_ear(t: &[Learner], i: LearnerId, p: ProposerId) -> Ear
     ear_by(t, at, p)
 }
 
-pub fn store_ear(t: &mut [Learner], i: LearnerId, p: ProposerId, x: Ear)
+pub(crate) fn store_ear(t: &mut [Learner], i: LearnerId, p: ProposerId, x: Ear)
     requires { ⌜ i .0 < length (now t) ⌝ }
     ensures { λ _. ⌜ now (t .exit) ≡ set (now (t .entry)) (i .0) (putEar (getD (now (t .entry)) (i .0) freshLearner) (p .0) x) ⌝ }
 {
@@ -207,7 +207,7 @@ pub fn store_ear(t: &mut [Learner], i: LearnerId, p: ProposerId, x: Ear)
 }
 
 // Whether every record is in range, for a run of these sizes.
-pub fn proposers_in_range(t: &[Proposer], z: Sizes) -> bool
+pub(crate) fn proposers_in_range(t: &[Proposer], z: Sizes) -> bool
     ensures { λ r. ⌜ r ≡ all (proposerInRange z) (now (t .entry)) ⌝ }
 {
     let mut sound = true;
@@ -221,7 +221,7 @@ pub fn proposers_in_range(t: &[Proposer], z: Sizes) -> bool
     sound
 }
 
-pub fn acceptors_in_range(t: &[Acceptor], z: Sizes) -> bool
+pub(crate) fn acceptors_in_range(t: &[Acceptor], z: Sizes) -> bool
     ensures { λ r. ⌜ r ≡ all (acceptorInRange z) (now (t .entry)) ⌝ }
 {
     let mut sound = true;
@@ -235,7 +235,7 @@ pub fn acceptors_in_range(t: &[Acceptor], z: Sizes) -> bool
     sound
 }
 
-pub fn learners_in_range(t: &[Learner], z: Sizes) -> bool
+pub(crate) fn learners_in_range(t: &[Learner], z: Sizes) -> bool
     ensures { λ r. ⌜ r ≡ all (learnerInRange z) (now (t .entry)) ⌝ }
 {
     let mut sound = true;
@@ -249,7 +249,7 @@ pub fn learners_in_range(t: &[Learner], z: Sizes) -> bool
     sound
 }
 
-pub fn messages_in_range(t: &[Message], z: Sizes) -> bool
+pub(crate) fn messages_in_range(t: &[Message], z: Sizes) -> bool
     ensures { λ r. ⌜ r ≡ all (messageInRange z) (now (t .entry)) ⌝ }
 {
     let mut sound = true;
@@ -264,7 +264,7 @@ pub fn messages_in_range(t: &[Message], z: Sizes) -> bool
 }
 
 // The first `n` fresh.
-pub fn fill_proposers(t: &mut [Proposer], n: usize)
+pub(crate) fn fill_proposers(t: &mut [Proposer], n: usize)
     requires { ⌜ n ≤ length (now t) ⌝ }
     ensures { λ _. ⌜ now (t .exit) ≡ replicate n freshProposer ++ drop n (now (t .entry)) ⌝ }
 {
@@ -276,7 +276,7 @@ pub fn fill_proposers(t: &mut [Proposer], n: usize)
     }
 }
 
-pub fn fill_acceptors(t: &mut [Acceptor], n: usize)
+pub(crate) fn fill_acceptors(t: &mut [Acceptor], n: usize)
     requires { ⌜ n ≤ length (now t) ⌝ }
     ensures { λ _. ⌜ now (t .exit) ≡ replicate n freshAcceptor ++ drop n (now (t .entry)) ⌝ }
 {
@@ -288,7 +288,7 @@ pub fn fill_acceptors(t: &mut [Acceptor], n: usize)
     }
 }
 
-pub fn fill_learners(t: &mut [Learner], n: usize)
+pub(crate) fn fill_learners(t: &mut [Learner], n: usize)
     requires { ⌜ n ≤ length (now t) ⌝ }
     ensures { λ _. ⌜ now (t .exit) ≡ replicate n freshLearner ++ drop n (now (t .entry)) ⌝ }
 {
@@ -301,7 +301,7 @@ pub fn fill_learners(t: &mut [Learner], n: usize)
 }
 
 // The first `n` slots free.
-pub fn fill_messages(t: &mut [Message], n: usize)
+pub(crate) fn fill_messages(t: &mut [Message], n: usize)
     requires { ⌜ n ≤ length (now t) ⌝ }
     ensures { λ _. ⌜ now (t .exit) ≡ replicate n freeSlot ++ drop n (now (t .entry)) ⌝ }
 {
@@ -331,7 +331,7 @@ fn is_searching(at: usize, n: usize, left: u8) -> bool
 }
 
 // How many of `need` free slots the table lacks. The search ends where it has found them.
-pub fn room(t: &[Message], need: u8) -> u8
+pub(crate) fn room(t: &[Message], need: u8) -> u8
     ensures { λ r. ⌜ r ≡ lacking need (now (t .entry)) ⌝ }
 {
     let mut left = need;
@@ -351,7 +351,7 @@ fn is_taken(m: Message) -> bool
 }
 
 // The lowest free slot from `from` on, where there is one.
-pub fn next_free(t: &[Message], from: usize) -> usize
+pub(crate) fn next_free(t: &[Message], from: usize) -> usize
     requires { ⌜ FreeFrom from (now t) ⌝ }
     ensures { λ r. ⌜ r ≡ lowestFrom from (now (t .entry)) ⌝ }
 {
@@ -365,7 +365,7 @@ pub fn next_free(t: &[Message], from: usize) -> usize
 }
 
 // Each message into the lowest free slot at that moment. No slot below `at` is free.
-pub fn send_all(t: &mut [Message], s: Send)
+pub(crate) fn send_all(t: &mut [Message], s: Send)
     requires { ⌜ Ready s (now t) ⌝ }
     ensures { λ _. ⌜ now (t .exit) ≡ post (itemsOf s) (now (t .entry)) ⌝ }
 {

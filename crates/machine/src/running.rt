@@ -60,7 +60,7 @@ fn note(log: &mut [u64], k: usize, answer: Answer)
 }
 
 // The first `n` events.
-pub fn drive(
+pub(crate) fn drive(
     z: Sizes,
     ps: &mut [Proposer],
     acs: &mut [Acceptor],
@@ -85,7 +85,7 @@ pub fn drive(
 }
 
 // The event `n` times, and a refusal with 1 where that is none.
-pub fn repeat(
+pub(crate) fn repeat(
     z: Sizes,
     ps: &mut [Proposer],
     acs: &mut [Acceptor],

@@ -643,7 +643,7 @@ fn step_table(z: Sizes, t: &mut [Message], e: Event, k: usize, m: Message) -> An
 }
 
 // One event.
-pub fn step(
+pub(crate) fn step(
     z: Sizes,
     ps: &mut [Proposer],
     acs: &mut [Acceptor],

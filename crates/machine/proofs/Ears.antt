@@ -12,7 +12,7 @@ use Rattle.choice.specs.Choice.{if_then_else_}
 use Rattle.sets.specs.declared.scans.Scans.{Scans}
 use Rattle.sizes.specs.declared.Sizes.{Sizes}
 use Rattle.model.specs.Records.{Kind, free, internal, proposal, acknowledgement, rejection, announcement, noKind, kindOf, Role, aProposer, anAcceptor, aLearner, noRole, roleOf, freshProposer, freshAcceptor, freshLearner, heardOf, unheard}
-use Rattle.model.specs.Rules.{hearing, teaches, learns, holding, learning, listening, crashedLearner}
+use Rattle.model.specs.Rules.{hearing, teaches, learns, listening, crashedLearner}
 use Rattle.model.specs.Table.{post, freeSlots}
 use Rattle.model.specs.Events.{Code, receive, deliver, drop, duplicate, propose, refine, decide, crash, noCode, codeOf}
 use Rattle.model.specs.declared.Proposer.{Proposer}
@@ -107,7 +107,7 @@ module _ (z : Sizes) (a : ℕ) (m : Message) (l : Learner) (q : Proposer) (c : A
 
   ear-answer : (y : Bool) → eqb n 0 ≡ y → (code : Code) → Holds (eqb (armAt a m code) 3)
       → earEnds z m x y n code .answer ≡ (if eqb (endsBy y n q c (hears code) .no) 0 then answerOf z (endsBy y n q c (hears code) .change .hears) (endsBy y n q c (hears code) .change .proposer .decided) a m l code else Refused (endsBy y n q c (hears code) .no))
-  unfolding armAt earSays answerOf learnerAnswer learns listening learning holding
+  unfolding armAt earSays answerOf learnerAnswer learns listening
   ear-answer y e receive h = absurd h
   ear-answer true e deliver h = rw e (learnt-as (teaches (z .acceptors) (l .learnt) (heardOf l p) m) Ok (hearing (heardOf l p) m .set) (l .learnt) (Learnt (record { 0 = m .addressee })))
   ear-answer false e deliver h = rw e refl
@@ -125,7 +125,7 @@ module _ (z : Sizes) (a : ℕ) (m : Message) (l : Learner) (q : Proposer) (c : A
 
   ear-learner : (y : Bool) (code : Code) → Holds (eqb (armAt a m code) 3)
       → putEar l p (earEnds z m x y n code .ear) ≡ learnerAfter z (endsBy y n q c (hears code) .change .hears) (endsBy y n q c (hears code) .change .stops) m l
-  unfolding armAt earAt learnerAfter learns listening learning holding crashedLearner
+  unfolding armAt earAt learnerAfter learns listening crashedLearner
   ear-learner y receive h = absurd h
   ear-learner true deliver h = refl
   ear-learner false deliver h = as-was

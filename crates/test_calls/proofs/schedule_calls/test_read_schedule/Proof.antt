@@ -22,8 +22,8 @@ unfolding numbersOf
 returns c =
     let a = c .before .before .before .before .before .before .before .before .before .before .before .args in
     let r = c .before .before .before .before .before .before .before .read-schedule .ensures in
-    let e = sym (c .before .before .before .answer .given .1) ∙ r .0 in
-    (ap scheduleReadNo e, r .1, ap (λ (x : ScheduleRead). scheduleHeader x (a .header .now)) e)
+    let e = sym (c .before .before .before .answer .given .1) in
+    (ap scheduleReadNo e ∙ r .2, r .1, ap (λ (x : ScheduleRead). scheduleHeader x (a .header .now)) (e ∙ r .0))
 
 same-length-2 : tie.Need-same-length-2
 same-length-2 c = search needs
@@ -32,8 +32,8 @@ returns-2 : tie.Need-returns-2
 returns-2 c =
     let a = c .before .before .before .before .before .before .before .before .before .args in
     let r = c .before .before .before .before .before .read-schedule .ensures in
-    let e = sym (c .before .answer2 .given .1) ∙ r .0 in
-    (ap scheduleReadNo e, r .1, ap (λ (x : ScheduleRead). scheduleHeader x (a .header .now)) e)
+    let e = sym (c .before .answer2 .given .1) in
+    (ap scheduleReadNo e ∙ r .2, r .1, ap (λ (x : ScheduleRead). scheduleHeader x (a .header .now)) (e ∙ r .0))
 
 pub test-read-schedule-spec : {M : Type 1} → statement M
 test-read-schedule-spec =

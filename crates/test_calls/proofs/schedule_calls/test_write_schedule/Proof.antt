@@ -1,4 +1,5 @@
-use mathlib.Core.Path.{sym, _∙_}
+use mathlib.Core.Path.{sym, ap, _∙_}
+use Rattle.numbers.specs.Coding.{writtenNo}
 use borrow.Author.Needs.{needs}
 use Rattle.test_calls.proofs.schedule_calls.test_write_schedule.Statement.{statement}
 use Rattle.test_calls.proofs.schedule_calls.test_write_schedule.Tie as tie
@@ -34,7 +35,7 @@ returns : tie.Need-returns
 returns c =
     let w = c .before .before .before .before .before .write-schedule in
     let e = sym (w .ensures .0) ∙ c .before .answer .given .1 in
-    (simp e, w .ensures .1, simp e)
+    (ap writtenNo (sym (c .before .answer .given .1)) ∙ w .ensures .2, w .ensures .1, simp e)
 
 same-length-2 : tie.Need-same-length-2
 same-length-2 c = search needs
@@ -43,7 +44,7 @@ returns-2 : tie.Need-returns-2
 returns-2 c =
     let w = c .before .before .before .before .before .write-schedule in
     let e = sym (w .ensures .0) ∙ c .before .answer2 .given .1 in
-    (simp e, w .ensures .1, simp e)
+    (ap writtenNo (sym (c .before .answer2 .given .1)) ∙ w .ensures .2, w .ensures .1, simp e)
 
 pub test-write-schedule-spec : {M : Type 1} → statement M
 test-write-schedule-spec =

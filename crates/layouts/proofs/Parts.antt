@@ -72,15 +72,12 @@ proposer-whole a s bytes p e = put-whole bytes (proposerBytes p) (proposer-lengt
 
 -- ---- the arguments of what passed its tests
 
--- a run has at most 8 proposers, 7 acceptors and 64 scans
+-- a run has at most 8 proposers and 7 acceptors
 pub few-proposers : (p a s : ℕ) → sizesInRange (sizesOf p a s) ≡ true → p ≤ 8
 few-proposers p a s e = bounds (sizesOf p a s) e .few-proposers
 
 pub few-acceptors : (p a s : ℕ) → sizesInRange (sizesOf p a s) ≡ true → a ≤ 7
 few-acceptors p a s e = bounds (sizesOf p a s) e .few-acceptors
-
-pub few-scans : (p a s : ℕ) → sizesInRange (sizesOf p a s) ≡ true → s ≤ 64
-few-scans p a s e = bounds (sizesOf p a s) e .few-scans
 
 pub proposer-sizes : (a s : ℕ) (bytes : List ℕ) → isProposer a s bytes ≡ true → sizesInRange (sizesOf 1 a s) ≡ true
 unfolding isProposer

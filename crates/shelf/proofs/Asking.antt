@@ -11,7 +11,7 @@ use lib.ListN.{length, drop, getD, List·getD-append}
 use lib.Seq.{sets, sets-eq}
 use borrow.Author.Tests.{lt-leb, le-leb, eqb-true, ne-eqb}
 use Rattle.choice.specs.Choice.{if_then_else_}
-use Rattle.sets.specs.Scans.{fits}
+use Rattle.sets.specs.Scans.{mostScans, fits}
 use Rattle.sets.specs.declared.scans.Scans.{Scans}
 use Rattle.numbers.specs.declared.Refusal.{Refusal}
 use Rattle.numbers.proofs.Puts.{stands}
@@ -74,8 +74,9 @@ newest-same (suc n) a b set tag h =
 
 -- ---- the table
 
--- without a refusal it has at most 64 scans
-pub table-most : (fields : List ℕ) → tableNo scanTests fields ≡ 0 → scansIn fields ≤ 64
+-- without a refusal it has no more scans than a set can hold
+pub table-most : (fields : List ℕ) → tableNo scanTests fields ≡ 0 → scansIn fields ≤ mostScans
+unfolding mostScans
 table-most fields e = scans-ranged (scansIn fields) (table-passes scanTests fields e .ranged) .1
 
 -- ---- the question
@@ -143,12 +144,13 @@ asked-written o set tag e = (e, ap askedNo e ∙ written-number o set tag)
 
 -- ---- a table that was read into room
 
--- a table that was read has at most 64 scans
-pub scans-most : (bytes : List ℕ) {n : ℕ} {fields : List ℕ} → readTable bytes ≡ readAs n fields → n ≤ 64
+-- so it is with a table that was read
+pub scans-most : (bytes : List ℕ) {n : ℕ} {fields : List ℕ} → readTable bytes ≡ readAs n fields → n ≤ mostScans
+unfolding mostScans
 scans-most bytes {n} e = scans-ranged n (table-got bytes e .ranged) .1
 
--- so it is with a table that was read into room
-pub written-most : (bytes room : List ℕ) {n : ℕ} → tableAnswer (intoRoom (readTable bytes) room) ≡ table.Scans n → n ≤ 64
+-- and with one that was read into room
+pub written-most : (bytes room : List ℕ) {n : ℕ} → tableAnswer (intoRoom (readTable bytes) room) ≡ table.Scans n → n ≤ mostScans
 written-most bytes room {n} e = scans-most bytes (read-scans bytes room n e .accepted)
 
 -- tables that agree have the same question
@@ -170,8 +172,8 @@ module _ (bytes room : List ℕ) (set : Scans) (tag : ℕ) where
       let w : whereIsWritten (readTable bytes) set tag ≡ ask n (f .fields) set tag = ap (λ (o : FormRead ℕ). whereIsWritten o set tag) (f .accepted) in
       rw (f .filled, w) (ask-same n (sets room 0 (f .fields)) (f .fields) set tag a)
 
-  -- the table is refused: room of 256 numbers is enough for every table
-  pub written-refused : (r : Refusal) → 256 ≤ length room → tableAnswer (intoRoom (readTable bytes) room) ≡ table.Refused r → shelf.Refused r ≡ whereIsWritten (readTable bytes) set tag
+  -- the table is refused: room of four numbers for each scan is enough for every table
+  pub written-refused : (r : Refusal) → 4 * mostScans ≤ length room → tableAnswer (intoRoom (readTable bytes) room) ≡ table.Refused r → shelf.Refused r ≡ whereIsWritten (readTable bytes) set tag
   unfolding whereIsWritten
   written-refused r h e =
       ⊎-elim

@@ -2,6 +2,7 @@
 use mathlib.Core.Path.{sym, ap, _∙_}
 use native.Mathlib.Omega.{arith}
 use borrow.Author.Needs.{needs}
+use Rattle.sets.specs.Scans.{mostScans}
 use Rattle.shelf.specs.Shelf.{refusedShelf}
 use Rattle.shelf.proofs.Asking.{table-most, where-refused, where-asked, asked}
 use Rattle.shelf.proofs.where_is.Statement.{statement}
@@ -17,6 +18,7 @@ returns c =
     asked (a .fields .now) (a .set) (a .tag) (ap refusedShelf e ∙ sym (where-refused (a .fields .now) (a .set) (a .tag) (λ h. c .if1 .taken (e ∙ h))))
 
 cast-ask-of : tie.Need-cast-ask-of
+unfolding mostScans
 cast-ask-of c = omega (arith, table-most (c .before .before .before .args .fields .now) (sym (c .before .table-no .ensures) ∙ c .if1 .left))
 
 ask-of-requires : tie.Need-ask-of-requires

@@ -4,6 +4,7 @@ use mathlib.Core.List.{List}
 use Prim.Native.Nat.{ℕ}
 use native.Mathlib.Omega.{arith}
 use borrow.Author.Needs.{needs}
+use Rattle.sets.specs.Scans.{mostScans}
 use Rattle.scan_table.specs.Table.{readTable}
 use Rattle.shelf.specs.Shelf.{ask}
 use Rattle.shelf.proofs.Asking.{written-most, written-asked, written-refused, asked-written}
@@ -23,6 +24,7 @@ slice-aggregate-ask-of : tie.Need-slice-aggregate-ask-of
 slice-aggregate-ask-of c = search needs
 
 cast-ask-of : tie.Need-cast-ask-of
+unfolding mostScans
 cast-ask-of c =
     let a = c .before .before .before .before .before .before .before .before .args in
     omega (arith, written-most (a .bytes .now) _ (sym (c .before .before .before .before .before .read-table .ensures .0) ∙ c .before .before .answer .given .1))
@@ -42,6 +44,7 @@ returns c =
     (c .ask-of .ensures ∙ ap (λ (room : List ℕ). ask (c .before .before .before .answer .given .0 .0) room (a .set) (a .tag)) (p .read-table .ensures .1) ∙ written-asked (a .bytes .now) _ (a .set) (a .tag) _ e)
 
 returns-2 : tie.Need-returns-2
+unfolding mostScans
 returns-2 c =
     let a = c .before .before .before .before .before .before .before .args in
     asked-written (readTable (a .bytes .now)) (a .set) (a .tag)

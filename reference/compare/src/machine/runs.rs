@@ -172,11 +172,7 @@ fn compare_steps<M: Machine>(
         let events = &schedule.numbers[EVENT * place..];
         let mut left = [BEFORE; LOG + 1];
         let answer = M::run(schedule.sizes, &mut lent, events, &mut left, 1);
-        let step = M::step(
-            schedule.sizes,
-            &mut stepped,
-            [event.code, event.a, event.b],
-        );
+        let step = M::step(schedule.sizes, &mut stepped, [event.code, event.a, event.b]);
         let said = state.step(event);
         let [first, second] = said;
         comparisons.same(

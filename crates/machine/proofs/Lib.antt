@@ -30,3 +30,4 @@ pub mod Arms
 pub mod Parts
 pub mod Heards
 pub mod Counting
+pub mod Replies

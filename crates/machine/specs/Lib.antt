@@ -1,3 +1,4 @@
+pub mod Acceptors
 pub mod Calls
 pub mod Histories
 pub mod Counting

@@ -1,8 +1,7 @@
-// The calls on records that a caller lends: fresh, one acceptor's answer to a proposal, one step, a run; and a whole run from fresh on records of its own. Each tests all that it is given.
+// The calls on records that a caller lends: fresh, one step, a run; and a whole run from fresh on records of its own. Each tests all that it is given.
 ghost use mathlib.Core.Path.{_≡_};
 ghost use mathlib.Core.Bool.{_&&_};
 ghost use Rattle.sizes.specs.Sizes.{sizesInRange};
-ghost use Rattle.model.specs.Rules.{accepts, answering};
 ghost use Rattle.machine.specs.Slots.{takenSlot};
 ghost use Rattle.machine.specs.Calls.{lent, saidOf, FreshCall, StepCall, SaidCall, RunCall, WholeRunCall, enoughOf};
 ghost use Rattle.machine.specs.Counting.{lengthsAre, soundOf, soundRunOf, turnsOf, sizedNo, eventsNo, wholeNo};
@@ -118,16 +117,6 @@ pub extern "C" fn machine_fresh(
     let m = slots_if(refusal, z);
     fill_messages(t, m);
     refusal
-}
-
-// One acceptor's answer to a proposal of a set, on the record that a caller lends: whether it accepts it. What is accepted then is the set to send.
-pub fn answer_proposal(acceptor: &mut Acceptor, set: Scans) -> bool
-    ensures { λ r. ⌜ (r ≡ accepts (now (acceptor .entry)) set) × (now (acceptor .exit) ≡ answering (now (acceptor .entry)) set) ⌝ }
-{
-    let before = *acceptor;
-    let accepted = before.accepts(set);
-    *acceptor = before.answer(set);
-    accepted
 }
 
 // One event, where the sizes, the lengths and all records are in range; otherwise a refusal with 1 and all as it was.

@@ -1,5 +1,6 @@
 -- What the proofs of several calls cite, and that the records which the server keeps stay within their ranges.
 pub mod Unasked
+pub mod Replying
 pub mod RuleCalls
 pub mod Hearing
 pub mod Answered

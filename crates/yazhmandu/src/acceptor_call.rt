@@ -3,9 +3,10 @@ ghost use mathlib.Core.Path.{_≡_};
 ghost use Rattle.yazhmandu.specs.Calls.{proposalNo, answerRecord, answerReply};
 use layouts::acceptors::acceptor_at;
 use layouts::acceptors::is_acceptor;
-use layouts::fields::is_set;
 use layouts::fields::put_flagged;
 use layouts::fields::set_at;
+use machine::acceptors::Reply;
+use machine::acceptors::answer_by_value;
 
 // Takes a proposal's set. The record is updated, and `reply` tells whether it is accepted (0 or 1) and the set to send.
 // 1 for the number of scans and the record, 3 for the set, 5 where the acceptor has crashed.
@@ -21,16 +22,25 @@ pub extern "C" fn ymd_answer_proposal(
     if !is_acceptor(kept, scans) {
         return 1;
     }
-    if !is_set(set, scans) {
+    if set.len() != 8 {
         return 3;
     }
     let before = acceptor_at(kept);
-    if !before.alive {
-        return 5;
-    }
     let proposed = set_at(set, 0);
-    let after = before.answer(proposed);
-    put_flagged(kept, after.alive, after.accepted);
-    put_flagged(reply, before.accepts(proposed), after.accepted);
-    0
+    let answered = answer_by_value(scans, before, proposed);
+    let after = answered.acceptor;
+    let said = answered.reply;
+    match said {
+        Reply::Accepted(sent) => {
+            put_flagged(kept, after.alive, after.accepted);
+            put_flagged(reply, true, sent);
+            0
+        }
+        Reply::Rejected(sent) => {
+            put_flagged(kept, after.alive, after.accepted);
+            put_flagged(reply, false, sent);
+            0
+        }
+        Reply::Refused(no) => no,
+    }
 }

@@ -1,0 +1,92 @@
+-- What a proposal's call gives, and what it leaves in the acceptor's record and in the reply, by the tests that are passed and by what the machine's call replied.
+use mathlib.Core.Bool.{Bool, true, false}
+use mathlib.Core.List.{List}
+use mathlib.Core.Path.{_≡_, refl, sym, ap, _∙_}
+use Prim.Native.Nat.{ℕ}
+use lib.Dec.{eqb}
+use lib.ListN.{length}
+use lib.Seq.{sets}
+use Rattle.choice.proofs.Tests.{and-l, and-r}
+use Rattle.sets.specs.Scans.{fits}
+use Rattle.sets.specs.declared.scans.Scans.{Scans}
+use Rattle.sizes.specs.Sizes.{scansInRange, sizesInRange}
+use Rattle.model.specs.Rules.{accepts, answering}
+use Rattle.model.specs.Ranges.{acceptorInRange}
+use Rattle.model.specs.declared.Acceptor.{Acceptor}
+use Rattle.machine.specs.Acceptors.{answerNo, replyTo, recordAfter}
+use Rattle.machine.specs.declared.acceptors.Reply.{Reply}
+use Rattle.machine.specs.declared.acceptors.Reply.the-variants.{Accepted, Rejected, Refused}
+use Rattle.machine.proofs.Replies.{told-accepted, told-rejected, told-refused, record-left}
+use Rattle.layouts.specs.Layout.{setAt, isSet, flagged, isAcceptor, acceptorAt, acceptorBytes}
+use Rattle.layouts.proofs.Parts.{flagged-whole, acceptor-length}
+use Rattle.yazhmandu.specs.Calls.{proposalNo, answerRecord, answerReply}
+
+module _ (s : ℕ) (kept set old : List ℕ) where
+  -- it gives n and leaves the record k and the reply b
+  abbrev pub Replied : ℕ → List ℕ → List ℕ → Type 0
+  Replied n k b = (n ≡ proposalNo s kept set) × (k ≡ answerRecord s kept set) × (b ≡ answerReply s kept set old)
+
+  refused-by : (n : ℕ) → eqb n 0 ≡ false → proposalNo s kept set ≡ n → Replied n kept old
+  unfolding answerRecord answerReply
+  refused-by n z e = (sym e, rw (e, z), rw (e, z))
+
+  pub no-acceptor : isAcceptor s kept ≡ false → Replied 1 kept old
+  unfolding proposalNo
+  no-acceptor e = refused-by 1 refl (rw e)
+
+  module _ (e : isAcceptor s kept ≡ true) where
+    pub no-set : eqb (length set) 8 ≡ false → Replied 3 kept old
+    unfolding proposalNo isSet
+    no-set f = refused-by 3 refl (rw (e, f))
+
+    in-range : scansInRange s ≡ true
+    unfolding isAcceptor sizesInRange
+    in-range = search (and-l, and-r) depth 9
+
+    fitting : fits (acceptorAt kept .accepted) s ≡ true
+    unfolding isAcceptor acceptorInRange
+    fitting = search (and-l, and-r) depth 9
+
+    module _ (f : eqb (length set) 8 ≡ true) where
+      abbrev q : Acceptor
+      q = acceptorAt kept
+
+      abbrev v : Scans
+      v = setAt set 0
+
+      -- past the record and the set's length, the tests are the machine's
+      same-number : proposalNo s kept set ≡ answerNo s q v
+      unfolding proposalNo isSet answerNo
+      same-number = rw (e, f, in-range, fitting) refl
+
+      -- what the machine's call hands back, on the record and the set that stand in the bytes
+      module _ {before after : Acceptor} {proposed : Scans} {r : Reply} (i : before ≡ q) (j : proposed ≡ v) (given : (after ≡ recordAfter s before proposed) × (r ≡ replyTo s before proposed)) where
+        left : after ≡ recordAfter s q v
+        left = given .0 ∙ (λ k. recordAfter s (i k) (j k))
+
+        said : r ≡ replyTo s q v
+        said = given .1 ∙ (λ k. replyTo s (i k) (j k))
+
+        pub refused-reply : {n : ℕ} → r ≡ Refused n → Replied n kept old
+        refused-reply {n} h =
+            let t = told-refused s q v said h in
+            refused-by n (t .1) (same-number ∙ t .0)
+
+        -- one that is answered
+        answered : (t : Bool) {w : Scans} {k b : List ℕ} → length old ≡ 9 → (answerNo s q v ≡ 0) × (accepts q v ≡ t) × (w ≡ answering q v .accepted)
+            → k ≡ sets kept 0 (flagged (after .alive) (after .accepted)) → b ≡ sets old 0 (flagged t w) → Replied 0 k b
+        unfolding answerRecord answerReply acceptorBytes
+        answered t {w} nine told g h =
+            let z : proposalNo s kept set ≡ 0 = same-number ∙ told .0 in
+            let a : after ≡ answering q v = left ∙ record-left s q v (told .0) in
+            let put = flagged-whole kept (after .alive) (after .accepted) (acceptor-length s kept e) in
+            let sent = flagged-whole old t w nine in
+            (sym z, rw z (g ∙ put ∙ ap (λ (p : Acceptor). flagged (p .alive) (p .accepted)) a), rw (z, told .1) (h ∙ sent ∙ ap (flagged t) (told .2)))
+
+        pub accepted-reply : {w : Scans} {k b : List ℕ} → length old ≡ 9 → r ≡ Accepted w
+            → k ≡ sets kept 0 (flagged (after .alive) (after .accepted)) → b ≡ sets old 0 (flagged true w) → Replied 0 k b
+        accepted-reply nine h = answered true nine (told-accepted s q v said h)
+
+        pub rejected-reply : {w : Scans} {k b : List ℕ} → length old ≡ 9 → r ≡ Rejected w
+            → k ≡ sets kept 0 (flagged (after .alive) (after .accepted)) → b ≡ sets old 0 (flagged false w) → Replied 0 k b
+        rejected-reply nine h = answered false nine (told-rejected s q v said h)

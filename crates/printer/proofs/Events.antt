@@ -14,7 +14,7 @@ use Rattle.forms.proofs.Steps.{sets-append}
 use Rattle.model.specs.Table.{from}
 use Rattle.model.specs.Step.{answerNo}
 use Rattle.model.specs.declared.Answer.{Answer}
-use Rattle.printer.specs.Puts.{Puts}
+use Rattle.printer.specs.Adds.{Adds}
 use Rattle.printer.specs.Log.{answerAt, answersIn}
 use Rattle.printer.specs.Text.{lines, linesFrom, okCount, refusedCount, endWith, runText}
 use Rattle.printer.proofs.Lengths.{lines-from-most}
@@ -147,7 +147,7 @@ module _ {log : List ℕ} {n : ℕ} {d₀ d : List ℕ} {next k : ℕ} (l : Prin
       let e : next + length (lines (k + 1) (answerAt log k) ++ linesLeft log n (k + 1)) ≡ length (linesFrom 1 (answersIn log n)) = rw (lines-more log n k h) at (l .ends) in
       omega (arith, l .same, length-append (lines (k + 1) (answerAt log k)) (linesLeft log n (k + 1)))
 
-  pub print-event : {e : List ℕ} {after : ℕ} → k < n → Puts (lines (k + 1) (answerAt log k)) d next after e → Printing log n d₀ e after (k + 1)
+  pub print-event : {e : List ℕ} {after : ℕ} → k < n → Adds (lines (k + 1) (answerAt log k)) d next after e → Printing log n d₀ e after (k + 1)
   print-event {e} {after} h p =
       let t = lines (k + 1) (answerAt log k) in
       let u = linesLeft log n (k + 1) in
@@ -159,7 +159,7 @@ module _ {log : List ℕ} {n : ℕ} {d₀ d : List ℕ} {next k : ℕ} (l : Prin
         left = rw (p .bytes, p .place) (sym (sets-append t u d next) ∙ s);
       }
 
-  pub print-all : n ≤ k → Puts (linesFrom 1 (answersIn log n)) d₀ 0 next d
+  pub print-all : n ≤ k → Adds (linesFrom 1 (answersIn log n)) d₀ 0 next d
   print-all h =
       let q : next + 0 ≡ length (linesFrom 1 (answersIn log n)) = rw (lines-none log n k h) at (l .ends) in
       record { place = omega arith; bytes = rw (lines-none log n k h) at (l .left) }

@@ -4,10 +4,12 @@ use mathlib.Core.List.{List, [], _∷_}
 use Prim.Native.Nat.{ℕ}
 use lib.ListN.{drop}
 use Rattle.sizes.specs.Sizes.{scansInRange, sizesInRange}
+use Rattle.sizes.specs.declared.Sizes.{Sizes}
 use Rattle.sets.proofs.Computing.{openSets}
 use Rattle.numbers.specs.Coding.{groupsOf, mostOf, lastGroup, groupsFrom, readNumber}
-use Rattle.forms.specs.Forms.{got, testRead, prepend, andThen, row, whole}
-use Rattle.schedule.specs.Schedule.{headerOf, headerNo, events, readSchedule}
+use Rattle.forms.specs.Forms.{testRead, prepend, andThen, row, FormRead, readAs, whole}
+use Rattle.schedule.specs.Schedule.{headerOf, headerNo, afterSix, readSchedule}
+use Rattle.schedule.specs.declared.Header.{Header}
 use Rattle.text.specs.Words.{bytes}
 use Rattle.text.specs.Digits.{decimalOf, hexOf}
 use Rattle.model.specs.Records.{fresh}
@@ -23,14 +25,21 @@ example =
     ∷ 0x01 ∷ 0x00 ∷ 0x00 ∷ 0x05 ∷ 0x00 ∷ 0x00 ∷ 0x02 ∷ 0x01 ∷ 0x00 ∷ 0x07 ∷ 0x00 ∷ 0x00
     ∷ 0x02 ∷ 0x02 ∷ 0x00 ∷ 0x02 ∷ 0x01 ∷ 0x00 ∷ 0x07 ∷ 0x00 ∷ 0x00 ∷ []
 
-numbers-read : readSchedule example ≡ got example 27
-unfolding openSets scansInRange sizesInRange groupsOf mostOf lastGroup groupsFrom readNumber testRead prepend andThen row whole headerOf headerNo events readSchedule
+-- its six numbers, as a header
+abbrev sizes : Sizes
+sizes = record { proposers = 2; acceptors = 1; learners = 1; slots = 16; scans = 2 }
+
+abbrev read : FormRead Header
+read = readAs (record { sizes = sizes; events = 7 }) (drop 6 example)
+
+numbers-read : readSchedule example ≡ read
+unfolding openSets scansInRange sizesInRange groupsOf mostOf lastGroup groupsFrom readNumber testRead prepend andThen row whole headerOf headerNo afterSix readSchedule
 numbers-read = refl
 
-printed : textOfRead (got example 27)
+printed : textOfRead read
     ≡ bytes "1 ok\n2 ok\n3 ok\n4 refused 6\n5 ok\n5 learnt 0 0000000000000001\n6 ok\n7 ok\n7 decided 0 0000000000000001\nend 7 6 1\n"
-unfolding textOfRead headerOf from theStep settledAnswers lines linesFrom okCount refusedCount runText decimalOf hexOf bytes
-printed = ap runText (answers-settled (headerOf example .sizes) (fresh (headerOf example .sizes)) (eventsIn (drop 6 example) 7))
+unfolding textOfRead from theStep settledAnswers lines linesFrom okCount refusedCount runText decimalOf hexOf bytes
+printed = ap runText (answers-settled sizes (fresh sizes) (eventsIn (drop 6 example) 7))
 
 pub example-text : text example
     ≡ bytes "1 ok\n2 ok\n3 ok\n4 refused 6\n5 ok\n5 learnt 0 0000000000000001\n6 ok\n7 ok\n7 decided 0 0000000000000001\nend 7 6 1\n"

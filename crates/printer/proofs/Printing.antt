@@ -1,13 +1,12 @@
 -- A schedule that is read, run and printed: what is printed is the text of its bytes.
 use mathlib.Core.Path.{_≡_, refl, sym, ap, _∙_}
-use mathlib.Core.Bool.{true, false}
+use mathlib.Core.Bool.{true}
 use mathlib.Core.List.{List, _++_, map}
 use Prim.Native.Nat.{ℕ, zero, suc, _+_, _*_, _≤_}
 use native.Mathlib.Omega.{arith}
-use lib.Dec.{ltb}
 use lib.ListN.{length, drop, getD, List·getD-append}
 use lib.Seq.{sets, sets-eq, length-sets}
-use borrow.Author.Tests.{le-leb, le-ltb}
+use borrow.Author.Tests.{le-leb}
 use Rattle.sizes.specs.Sizes.{sizesInRange}
 use Rattle.sizes.specs.Events.{mostEvents}
 use Rattle.sizes.specs.declared.Sizes.{Sizes}
@@ -15,8 +14,10 @@ use Rattle.numbers.specs.declared.Refusal.{Refusal}
 use Rattle.numbers.specs.declared.Written.{Written}
 use Rattle.numbers.specs.declared.Written.the-variants as written
 use Rattle.text.proofs.DigitLaws.{decimal-most}
-use Rattle.forms.specs.Forms.{Outcome, got, refused}
-use Rattle.schedule.specs.Schedule.{headerOf, readSchedule, readAnswer, afterRead}
+use Rattle.numbers.proofs.Puts.{wrote}
+use Rattle.forms.specs.Forms.{FormRead, readAs, unread, intoRoom, afterRoom}
+use Rattle.forms.proofs.Rooms.{Fills, form-refused, room-enough}
+use Rattle.schedule.specs.Schedule.{readSchedule, scheduleAnswer}
 use Rattle.schedule.specs.declared.Header.{Header}
 use Rattle.schedule.specs.declared.ScheduleRead.the-variants as schedule
 use Rattle.schedule.proofs.ScheduleLaws.{schedule-whole}
@@ -32,7 +33,7 @@ use Rattle.machine.specs.Calls.{eventOf, eventsIn, hasNumbers, logged, logAfter
 use Rattle.sizes.proofs.SizeLaws.{bounds}
 use Rattle.machine.proofs.RunLaws.{length-from, length-answers}
 use Rattle.printer.specs.Log.{answersIn}
-use Rattle.printer.specs.Text.{runText, refusedText, longestText, putAnswer, afterPut}
+use Rattle.printer.specs.Text.{runText, refusedText, longestText, textWritten, afterText}
 use Rattle.printer.specs.Printing.{textOfRun, textOfRead, text}
 use Rattle.printer.proofs.ReadBack.{Small, read-back}
 use Rattle.printer.proofs.Lengths.{refusal-length}
@@ -65,11 +66,11 @@ module _ (z : Sizes) (ns log : List ℕ) (n : ℕ) (h : sizesInRange z ≡ true)
       (ap (answersIn (logged ws log)) (sym many) ∙ read-back ws (drop (2 * length ws) log) (all-answers Small (named-small z h) (all-named z (fresh z) (eventsIn ns n))))
 
   pub run-printed : (buffer log′ : List ℕ) (r : Written) (left : List ℕ) → log′ ≡ logAfterWholeRun z ns n log
-      → (r ≡ putAnswer (runText (answersIn log′ n)) buffer) × (left ≡ afterPut (runText (answersIn log′ n)) buffer)
-      → (r ≡ putAnswer (textOfRun z ns n) buffer) × (left ≡ afterPut (textOfRun z ns n) buffer)
+      → (r ≡ textWritten (runText (answersIn log′ n)) buffer) × (left ≡ afterText (runText (answersIn log′ n)) buffer)
+      → (r ≡ textWritten (textOfRun z ns n) buffer) × (left ≡ afterText (textOfRun z ns n) buffer)
   run-printed buffer log′ r left e p =
       let w : answersIn log′ n ≡ answers z (fresh z) (eventsIn ns n) = ap (λ (l : List ℕ). answersIn l n) e ∙ run-log in
-      (p .0 ∙ ap (λ (ws : List Answer). putAnswer (runText ws) buffer) w, p .1 ∙ ap (λ (ws : List Answer). afterPut (runText ws) buffer) w)
+      (p .0 ∙ ap (λ (ws : List Answer). textWritten (runText ws) buffer) w, p .1 ∙ ap (λ (ws : List Answer). afterText (runText ws) buffer) w)
 
 -- ---- the events of a schedule that is read
 
@@ -88,38 +89,40 @@ events-in-room room ns n h l = rw (sets-eq ns room 0 (omega arith)) (events-befo
 
 -- room for 4,096 events is never too small
 module _ (bytes room : List ℕ) (size : length room ≡ 12_288) where
-  enough-room : (vs : List ℕ) (next : ℕ) → readSchedule bytes ≡ got vs next → ltb (length room) (headerOf vs .events * 3) ≡ false
-  enough-room vs next e = le-ltb (length room) (headerOf vs .events * 3) (omega (arith, schedule-whole bytes e .right .count))
+  fills : (h : Header) (fields : List ℕ) → readSchedule bytes ≡ readAs h fields → Fills (readAs h fields) room (readAs h fields) (sets room 0 fields)
+  fills h fields e = let w = schedule-whole bytes e in room-enough Header room h fields (omega (arith, w .count, w .right .count))
 
   pub record Ran (h : Header) : Type 0 where
     pub sizes : sizesInRange (h .sizes) ≡ true
     pub few : h .events ≤ mostEvents
-    pub numbers : 3 * h .events ≤ length (afterRead (readSchedule bytes) room)
-    pub same : textOfRun (h .sizes) (afterRead (readSchedule bytes) room) (h .events) ≡ text bytes
+    pub numbers : 3 * h .events ≤ length (afterRoom (readSchedule bytes) room)
+    pub same : textOfRun (h .sizes) (afterRoom (readSchedule bytes) room) (h .events) ≡ text bytes
 
-  ran-by : (o : Outcome) → readSchedule bytes ≡ o → (h : Header) → readAnswer o room ≡ schedule.Events h → Ran h
-  unfolding readAnswer afterRead textOfRead
-  ran-by (got vs next) e h q =
+  ran-by : (o : FormRead Header) → readSchedule bytes ≡ o → (h : Header) → scheduleAnswer (intoRoom o room) ≡ schedule.Events h → Ran h
+  unfolding scheduleAnswer textOfRead
+  ran-by (readAs g fields) e h q =
       let w = schedule-whole bytes e in
-      let f = enough-room vs next e in
-      let k : headerOf vs ≡ h = let z : schedule.Events (headerOf vs) ≡ schedule.Events h = rw f at q in cc in
+      let f = fills g fields e in
+      let k : g ≡ h = let z : schedule.Events g ≡ schedule.Events h = ap scheduleAnswer (f .0) ∙ q in cc in
       record {
         sizes = rw (← k) (w .right .sizes);
         few = rw (← k) (w .right .count);
-        numbers = rw (e, f, length-sets room 0 (drop 6 vs), ← k) (omega (arith, w .right .count));
-        same = rw (e, f, ← k) (ap (λ (es : List Event). runText (answers (headerOf vs .sizes) (fresh (headerOf vs .sizes)) es)) (events-in-room room (drop 6 vs) (headerOf vs .events) (omega (arith, w .count)) (omega (arith, w .count, w .right .count))));
+        numbers = rw (e, ← f .1, length-sets room 0 fields, ← k) (omega (arith, w .right .count));
+        same = rw (e, ← f .1, ← k) (ap (λ (es : List Event). runText (answers (g .sizes) (fresh (g .sizes)) es)) (events-in-room room fields (g .events) (omega (arith, w .count)) (omega (arith, w .count, w .right .count))));
       }
-  ran-by (refused r) e h q = absurd (let z : _≡_ {A = ℕ} 0 1 = cc in omega arith)
+  ran-by (unread r) e h q = absurd (let y : schedule.Refused r ≡ schedule.Events h = ap scheduleAnswer (form-refused Header room r .0) ∙ q in let z : _≡_ {A = ℕ} 0 1 = cc in omega arith)
 
-  pub ran : (h : Header) → readAnswer (readSchedule bytes) room ≡ schedule.Events h → Ran h
+  pub ran : (h : Header) → scheduleAnswer (intoRoom (readSchedule bytes) room) ≡ schedule.Events h → Ran h
   ran h q = ran-by (readSchedule bytes) refl h q
 
-  refused-by : (o : Outcome) → readSchedule bytes ≡ o → (r : Refusal) → readAnswer o room ≡ schedule.Refused r → refusedText (r .no) ≡ text bytes
-  unfolding readAnswer textOfRead
-  refused-by (got vs next) e r q = absurd (let z : schedule.Events (headerOf vs) ≡ schedule.Refused r = rw (enough-room vs next e) at q in let y : _≡_ {A = ℕ} 0 1 = cc in omega arith)
-  refused-by (refused s) e r q = rw e (ap (λ (x : Refusal). refusedText (x .no)) (let z : r ≡ s = cc in z))
+  refused-by : (o : FormRead Header) → readSchedule bytes ≡ o → (r : Refusal) → scheduleAnswer (intoRoom o room) ≡ schedule.Refused r → refusedText (r .no) ≡ text bytes
+  unfolding scheduleAnswer textOfRead
+  refused-by (readAs g fields) e r q = absurd (let z : schedule.Events g ≡ schedule.Refused r = ap scheduleAnswer (fills g fields e .0) ∙ q in let y : _≡_ {A = ℕ} 0 1 = cc in omega arith)
+  refused-by (unread s) e r q =
+      let y : schedule.Refused s ≡ schedule.Refused r = ap scheduleAnswer (form-refused Header room s .0) ∙ q in
+      rw e (ap (λ (x : Refusal). refusedText (x .no)) (let z : r ≡ s = cc in z))
 
-  pub refused-printed : (r : Refusal) → readAnswer (readSchedule bytes) room ≡ schedule.Refused r → refusedText (r .no) ≡ text bytes
+  pub refused-printed : (r : Refusal) → scheduleAnswer (intoRoom (readSchedule bytes) room) ≡ schedule.Refused r → refusedText (r .no) ≡ text bytes
   refused-printed r q = refused-by (readSchedule bytes) refl r q
 
 -- ---- no text is longer than the bound
@@ -130,20 +133,21 @@ named-short z h (Learnt l v) (namesLearner i) = omega (arith, bounds z h .few-le
 named-short z h (Decided p v) (namesProposer i) = omega (arith, bounds z h .few-proposers)
 named-short z h (Refused n) (namesRefusal l m) = omega arith
 
-text-by : (bytes : List ℕ) (o : Outcome) → readSchedule bytes ≡ o → length (textOfRead o) ≤ longestText
+text-by : (bytes : List ℕ) (o : FormRead Header) → readSchedule bytes ≡ o → length (textOfRead o) ≤ longestText
 unfolding textOfRead
-text-by bytes (got vs next) e =
+text-by bytes (readAs h fields) e =
     let w = schedule-whole bytes e .right in
-    let z = headerOf vs .sizes in
-    let es = eventsIn (drop 6 vs) (headerOf vs .events) in
-    longest (answers z (fresh z) es) (omega (arith, length-answers z (fresh z) es, length-from (eventOf (drop 6 vs)) 0 (headerOf vs .events), w .count)) (all-answers Short (named-short z (w .sizes)) (all-named z (fresh z) es))
-text-by bytes (refused r) e = omega (arith, refusal-length (r .no), decimal-most 20 (r .no))
+    let z = h .sizes in
+    let es = eventsIn fields (h .events) in
+    longest (answers z (fresh z) es) (omega (arith, length-answers z (fresh z) es, length-from (eventOf fields) 0 (h .events), w .count)) (all-answers Short (named-short z (w .sizes)) (all-named z (fresh z) es))
+text-by bytes (unread r) e = omega (arith, refusal-length (r .no), decimal-most 20 (r .no))
 
 -- whatever the bytes are
 pub text-most : (bytes : List ℕ) → length (text bytes) ≤ longestText
 text-most bytes = text-by bytes (readSchedule bytes) refl
 
 -- so a buffer of that length is never too short
-pub never-eight : (bytes buffer : List ℕ) → longestText ≤ length buffer → putAnswer (text bytes) buffer ≡ written.Next (length (text bytes))
-unfolding putAnswer
-never-eight bytes buffer h = rw (le-ltb (length buffer) (length (text bytes)) (omega (arith, text-most bytes)))
+pub never-eight : (bytes buffer : List ℕ) → longestText ≤ length buffer → textWritten (text bytes) buffer ≡ written.Next (length (text bytes))
+never-eight bytes buffer h =
+    let n : length (text bytes) ≡ 0 + length (text bytes) = omega arith in
+    sym (ap written.Next n ∙ wrote 0 (text bytes) buffer 0 refl (omega (arith, text-most bytes)) .0)

@@ -7,8 +7,9 @@ use native.Mathlib.Numerals.{add-one, add-two}
 use lib.ListN.{length, take, drop, getD, drop-of-length-le}
 use lib.Seq.{drop-cons}
 use Rattle.sizes.specs.declared.Sizes.{Sizes}
-use Rattle.forms.specs.Forms.{got}
-use Rattle.schedule.specs.Schedule.{headerOf, scheduleForm, readSchedule}
+use Rattle.forms.specs.Forms.{readAs}
+use Rattle.schedule.specs.Schedule.{scheduleForm, readSchedule}
+use Rattle.schedule.specs.declared.Header.{Header}
 use Rattle.schedule.proofs.ScheduleLaws.{Bytes, schedule-whole, schedule-one-form}
 use Rattle.model.specs.Records.{State, fresh}
 use Rattle.model.specs.Table.{from}
@@ -21,21 +22,21 @@ use Rattle.model.proofs.Answers.{Says, isFine, isLearnt, isDecided, isRefused, 
 use Rattle.model.proofs.Safety.{safe}
 use Rattle.machine.specs.Calls.{eventOf, eventsIn}
 use Rattle.printer.specs.Printing.{textOfRead}
-use Rattle.printer.specs.Telling.{numbersIn, IsSo, Tells}
+use Rattle.printer.specs.Telling.{eventNumbers, IsSo, Tells}
 
 -- ---- the events that stand there
 
 -- whole events are all of their numbers, from event k on
-numbers-from : (ns : List ℕ) (k n : ℕ) → length ns ≡ 3 * (k + n) → numbersIn (map (eventOf ns) (from k n)) ≡ drop (3 * k) ns
-unfolding from numbersIn
+numbers-from : (ns : List ℕ) (k n : ℕ) → length ns ≡ 3 * (k + n) → eventNumbers (map (eventOf ns) (from k n)) ≡ drop (3 * k) ns
+unfolding from eventNumbers
 numbers-from ns k zero l = sym (drop-of-length-le ns {i = 3 * k} (omega arith))
 numbers-from ns k (suc n) l =
     let p : 3 * suc k ≡ suc (suc (suc (3 * k))) = omega arith in
-    let rest : numbersIn (map (eventOf ns) (from (suc k) n)) ≡ drop (suc (suc (suc (3 * k)))) ns = numbers-from ns (suc k) n (omega arith) ∙ ap (λ (i : ℕ). drop i ns) p in
+    let rest : eventNumbers (map (eventOf ns) (from (suc k) n)) ≡ drop (suc (suc (suc (3 * k)))) ns = numbers-from ns (suc k) n (omega arith) ∙ ap (λ (i : ℕ). drop i ns) p in
     rw (add-one (3 * k), add-two (3 * k), rest)
     (sym (drop-cons ns (3 * k) 0 (omega arith) ∙ rw (drop-cons ns (suc (3 * k)) 0 (omega arith), drop-cons ns (suc (suc (3 * k))) 0 (omega arith))))
 
-numbers-in : (ns : List ℕ) (n : ℕ) → length ns ≡ n * 3 → numbersIn (eventsIn ns n) ≡ ns
+numbers-in : (ns : List ℕ) (n : ℕ) → length ns ≡ n * 3 → eventNumbers (eventsIn ns n) ≡ ns
 numbers-in ns n l = numbers-from ns 0 n (omega arith)
 
 -- ---- what is said is so
@@ -57,13 +58,13 @@ answers-so z s (e ∷ es) (suc i) = answers-so z (step z s e .state) es i
 -- ---- the theorem
 
 -- for every schedule that is read
-pub tells : (bytes : List ℕ) {vs : List ℕ} {next : ℕ} → Bytes bytes → readSchedule bytes ≡ got vs next → Tells bytes (headerOf vs .sizes) (eventsIn (drop 6 vs) (headerOf vs .events))
+pub tells : (bytes : List ℕ) {h : Header} {fields : List ℕ} → Bytes bytes → readSchedule bytes ≡ readAs h fields → Tells bytes (h .sizes) (eventsIn fields (h .events))
 unfolding textOfRead moment
-tells bytes {vs} b e =
-    let z = headerOf vs .sizes in
-    let es = eventsIn (drop 6 vs) (headerOf vs .events) in
+tells bytes {h} {fields} b e =
+    let z = h .sizes in
+    let es = eventsIn fields (h .events) in
     record {
-      written = schedule-one-form bytes b e .written ∙ ap (scheduleForm z) (sym (numbers-in (drop 6 vs) (headerOf vs .events) (schedule-whole bytes e .count)));
+      written = schedule-one-form bytes b e .written ∙ ap (scheduleForm z) (sym (numbers-in fields (h .events) (schedule-whole bytes e .count)));
       printed = ap textOfRead e;
       safe = safe z es;
       so = answers-so z (fresh z) es;

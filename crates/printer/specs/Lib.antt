@@ -1,4 +1,4 @@
-pub mod Puts
+pub mod Adds
 pub mod Log
 pub mod Text
 pub mod Printing

@@ -1,10 +1,10 @@
 -- What the bytes of a schedule print: the text of its run from fresh, or of its refusal.
 use mathlib.Core.List.{List}
 use Prim.Native.Nat.{ℕ}
-use lib.ListN.{drop}
-use Rattle.forms.specs.Forms.{Outcome, got, refused}
+use Rattle.forms.specs.Forms.{FormRead, readAs, unread}
 use Rattle.sizes.specs.declared.Sizes.{Sizes}
-use Rattle.schedule.specs.Schedule.{headerOf, readSchedule}
+use Rattle.schedule.specs.Schedule.{readSchedule}
+use Rattle.schedule.specs.declared.Header.{Header}
 use Rattle.model.specs.Records.{fresh}
 use Rattle.model.specs.Step.{answers}
 use Rattle.machine.specs.Calls.{eventsIn}
@@ -14,10 +14,10 @@ use Rattle.printer.specs.Text.{runText, refusedText}
 abbrev pub textOfRun : Sizes → List ℕ → ℕ → List ℕ
 textOfRun z ns n = runText (answers z (fresh z) (eventsIn ns n))
 
--- after the six numbers of the header come the events
-unfoldable pub textOfRead : Outcome → List ℕ
-textOfRead (got vs next) = textOfRun (headerOf vs .sizes) (drop 6 vs) (headerOf vs .events)
-textOfRead (refused r) = refusedText (r .no)
+-- of a schedule that is read, by its header and the numbers of its events; or of its refusal
+unfoldable pub textOfRead : FormRead Header → List ℕ
+textOfRead (readAs h fields) = textOfRun (h .sizes) fields (h .events)
+textOfRead (unread r) = refusedText (r .no)
 
 abbrev pub text : List ℕ → List ℕ
 text bytes = textOfRead (readSchedule bytes)

@@ -15,9 +15,9 @@ use Rattle.printer.specs.Text.{runText}
 use Rattle.printer.specs.Printing.{text}
 
 -- the numbers of events as a schedule has them: code, a, b
-unfoldable pub numbersIn : List Event → List ℕ
-numbersIn [] = []
-numbersIn (e ∷ es) = e .code ∷ e .a ∷ e .b ∷ numbersIn es
+unfoldable pub eventNumbers : List Event → List ℕ
+eventNumbers [] = []
+eventNumbers (e ∷ es) = e .code ∷ e .a ∷ e .b ∷ eventNumbers es
 
 -- what an answer says is so, where its event left the state s: the party that it names is one of the run's, and that party has exactly the set
 unfoldable pub IsSo : Sizes → State → Answer → Type 0
@@ -28,7 +28,7 @@ IsSo z s (Refused n) = Unit
 
 pub record Tells (bytes : List ℕ) (z : Sizes) (es : List Event) : Type 0 where
   -- the bytes are the written form of these sizes and these events, and nothing else
-  pub written : bytes ≡ scheduleForm z (numbersIn es)
+  pub written : bytes ≡ scheduleForm z (eventNumbers es)
   -- the text is the lines of what a run of these events from fresh answers
   pub printed : text bytes ≡ runText (answers z (fresh z) es)
   -- of this run demand 3 holds

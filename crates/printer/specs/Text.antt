@@ -1,13 +1,11 @@
 -- Document 01, the end of "Written forms": what the run printer prints.
 use mathlib.Core.List.{List, [], _∷_, _++_}
 use Prim.Native.Nat.{ℕ, suc, _+_}
-use lib.Dec.{eqb, ltb}
+use lib.Dec.{eqb}
 use lib.ListN.{length}
-use lib.Seq.{sets}
 use Rattle.choice.specs.Choice.{if_then_else_}
-use Rattle.numbers.specs.Coding.{refusedWrite, leaves}
+use Rattle.numbers.specs.Coding.{putNo, putAnswer, afterPut}
 use Rattle.numbers.specs.declared.Written.{Written}
-use Rattle.numbers.specs.declared.Written.the-variants as written
 use Rattle.text.specs.Words.{bytes}
 use Rattle.text.specs.Digits.{decimal, hex}
 use Rattle.model.specs.Step.{answerNo}
@@ -72,10 +70,13 @@ longestText = 163_859
 unfoldable pub refusedText : ℕ → List ℕ
 refusedText n = bytes "schedule refused " ++ decimal n ++ bytes "\n"
 
--- ---- a text into a buffer: 8 where the buffer is shorter, and then no byte changes; bytes past the text stay
+-- ---- a text at the start of a buffer: the refusal (8 alone), the answer, the buffer after it
 
-unfoldable pub putAnswer : List ℕ → List ℕ → Written
-putAnswer text buffer = if ltb (length buffer) (length text) then refusedWrite 8 else written.Next (length text)
+abbrev pub textWrittenNo : List ℕ → List ℕ → ℕ
+textWrittenNo text buffer = putNo 0 text buffer 0
 
-unfoldable pub afterPut : List ℕ → List ℕ → List ℕ
-afterPut text buffer = leaves (putAnswer text buffer) (sets buffer 0 text) buffer
+abbrev pub textWritten : List ℕ → List ℕ → Written
+textWritten text buffer = putAnswer 0 text buffer 0
+
+abbrev pub afterText : List ℕ → List ℕ → List ℕ
+afterText text buffer = afterPut 0 text buffer 0

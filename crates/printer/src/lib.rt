@@ -5,15 +5,16 @@ ghost use Prim.Native.Nat.{_+_, _*_, _≤_, _<_};
 ghost use lib.Dec.{eqb};
 ghost use lib.ListN.{length};
 ghost use Rattle.choice.specs.Choice.{if_then_else_};
+ghost use Rattle.numbers.specs.Coding.{writtenNo};
 ghost use Rattle.text.specs.Words.{bytes};
 ghost use Rattle.text.specs.Digits.{decimal, hex};
 ghost use Rattle.model.specs.Step.{answerNo};
 ghost use mathlib.Core.Bool.{true};
 ghost use Rattle.sizes.specs.Sizes.{sizesInRange};
 ghost use Rattle.sizes.specs.Events.{mostEvents};
-ghost use Rattle.printer.specs.Puts.{Puts};
+ghost use Rattle.printer.specs.Adds.{Adds};
 ghost use Rattle.printer.specs.Log.{readAnswerOf, answerAt, answersIn};
-ghost use Rattle.printer.specs.Text.{refusedLine, setLine, lines, linesFrom, okCount, endWith, runText, refusedText, putAnswer, afterPut};
+ghost use Rattle.printer.specs.Text.{refusedLine, setLine, lines, linesFrom, okCount, endWith, runText, refusedText, textWritten, afterText, textWrittenNo};
 ghost use Rattle.printer.specs.Printing.{textOfRun, text};
 use model::Answer;
 use numbers::Refusal;
@@ -126,7 +127,7 @@ fn count_events(log: &[u64], n: usize) -> Tally
 
 fn add_word(buffer: &mut [u8], at: usize, word: &[u8]) -> usize
     requires { ⌜ at + length (now word) ≤ length (now buffer) ⌝ }
-    ensures { λ r. ⌜ Puts (now (word .entry)) (now (buffer .entry)) at r (now (buffer .exit)) ⌝ }
+    ensures { λ r. ⌜ Adds (now (word .entry)) (now (buffer .entry)) at r (now (buffer .exit)) ⌝ }
 {
     text::put_word(buffer, at, word);
     at + word.len()
@@ -135,7 +136,7 @@ fn add_word(buffer: &mut [u8], at: usize, word: &[u8]) -> usize
 // A decimal number and a word after it.
 fn add_number(buffer: &mut [u8], at: usize, value: u64, word: &[u8]) -> usize
     requires { ⌜ at + length (decimal value ++ now word) ≤ length (now buffer) ⌝ }
-    ensures { λ r. ⌜ Puts (decimal value ++ now (word .entry)) (now (buffer .entry)) at r (now (buffer .exit)) ⌝ }
+    ensures { λ r. ⌜ Adds (decimal value ++ now (word .entry)) (now (buffer .entry)) at r (now (buffer .exit)) ⌝ }
 {
     text::put_decimal(buffer, at, value);
     add_word(buffer, at + text::decimal_width(value), word)
@@ -144,7 +145,7 @@ fn add_number(buffer: &mut [u8], at: usize, value: u64, word: &[u8]) -> usize
 // A set, which ends its line.
 fn add_set(buffer: &mut [u8], at: usize, set: u64) -> usize
     requires { ⌜ at + length (hex set ++ bytes "\n") ≤ length (now buffer) ⌝ }
-    ensures { λ r. ⌜ Puts (hex set ++ bytes "\n") (now (buffer .entry)) at r (now (buffer .exit)) ⌝ }
+    ensures { λ r. ⌜ Adds (hex set ++ bytes "\n") (now (buffer .entry)) at r (now (buffer .exit)) ⌝ }
 {
     text::put_hex(buffer, at, set);
     add_word(buffer, at + 16, b"\n")
@@ -152,7 +153,7 @@ fn add_set(buffer: &mut [u8], at: usize, set: u64) -> usize
 
 fn add_refused_line(buffer: &mut [u8], at: usize, place: u64, no: u64) -> usize
     requires { ⌜ at + length (refusedLine place no) ≤ length (now buffer) ⌝ }
-    ensures { λ r. ⌜ Puts (refusedLine place no) (now (buffer .entry)) at r (now (buffer .exit)) ⌝ }
+    ensures { λ r. ⌜ Adds (refusedLine place no) (now (buffer .entry)) at r (now (buffer .exit)) ⌝ }
 {
     let next = add_number(buffer, at, place, b" refused ");
     add_number(buffer, next, no, b"\n")
@@ -167,7 +168,7 @@ fn add_set_line(
     set: u64,
 ) -> usize
     requires { ⌜ at + length (setLine place (now word) party set) ≤ length (now buffer) ⌝ }
-    ensures { λ r. ⌜ Puts (setLine place (now (word .entry)) party set) (now (buffer .entry)) at r (now (buffer .exit)) ⌝ }
+    ensures { λ r. ⌜ Adds (setLine place (now (word .entry)) party set) (now (buffer .entry)) at r (now (buffer .exit)) ⌝ }
 {
     let of_party = add_number(buffer, at, place, word);
     let of_set = add_number(buffer, of_party, party, b" ");
@@ -177,7 +178,7 @@ fn add_set_line(
 // The lines of an event.
 fn add_lines(buffer: &mut [u8], at: usize, place: u64, answer: Answer) -> usize
     requires { ⌜ at + length (lines place answer) ≤ length (now buffer) ⌝ }
-    ensures { λ r. ⌜ Puts (lines place answer) (now (buffer .entry)) at r (now (buffer .exit)) ⌝ }
+    ensures { λ r. ⌜ Adds (lines place answer) (now (buffer .entry)) at r (now (buffer .exit)) ⌝ }
 {
     match answer {
         Answer::Ok => add_number(buffer, at, place, b" ok\n"),
@@ -203,7 +204,7 @@ fn add_lines(buffer: &mut [u8], at: usize, place: u64, answer: Answer) -> usize
 // The lines of the first n events of a log.
 fn add_events(buffer: &mut [u8], log: &[u64], n: usize) -> usize
     requires { ⌜ (2 * n ≤ length (now log)) × (length (linesFrom 1 (answersIn (now log) n)) ≤ length (now buffer)) ⌝ }
-    ensures { λ r. ⌜ Puts (linesFrom 1 (answersIn (now (log .entry)) n)) (now (buffer .entry)) 0 r (now (buffer .exit)) ⌝ }
+    ensures { λ r. ⌜ Adds (linesFrom 1 (answersIn (now (log .entry)) n)) (now (buffer .entry)) 0 r (now (buffer .exit)) ⌝ }
 {
     let mut next: usize = 0;
     let mut k: usize = 0;
@@ -217,7 +218,7 @@ fn add_events(buffer: &mut [u8], log: &[u64], n: usize) -> usize
 
 fn add_end_line(buffer: &mut [u8], at: usize, events: u64, ok: u64, refused: u64) -> usize
     requires { ⌜ at + length (endWith events ok refused) ≤ length (now buffer) ⌝ }
-    ensures { λ r. ⌜ Puts (endWith events ok refused) (now (buffer .entry)) at r (now (buffer .exit)) ⌝ }
+    ensures { λ r. ⌜ Adds (endWith events ok refused) (now (buffer .entry)) at r (now (buffer .exit)) ⌝ }
 {
     let of_events = add_word(buffer, at, b"end ");
     let of_ok = add_number(buffer, of_events, events, b" ");
@@ -228,7 +229,7 @@ fn add_end_line(buffer: &mut [u8], at: usize, events: u64, ok: u64, refused: u64
 // The text of a run whose answers stand in a log.
 fn print_log(buffer: &mut [u8], log: &[u64], n: u16) -> Written
     requires { ⌜ 2 * n ≤ length (now log) ⌝ }
-    ensures { λ r. ⌜ (r ≡ putAnswer (runText (answersIn (now (log .entry)) n)) (now (buffer .entry))) × (now (buffer .exit) ≡ afterPut (runText (answersIn (now (log .entry)) n)) (now (buffer .entry))) ⌝ }
+    ensures { λ r. ⌜ (r ≡ textWritten (runText (answersIn (now (log .entry)) n)) (now (buffer .entry))) × (now (buffer .exit) ≡ afterText (runText (answersIn (now (log .entry)) n)) (now (buffer .entry))) ⌝ }
 {
     let events = n as usize;
     let counts = count_events(log, events);
@@ -244,7 +245,7 @@ fn print_log(buffer: &mut [u8], log: &[u64], n: u16) -> Written
 
 // The text of a refused schedule: 18 bytes of words, and the number.
 fn print_refusal(buffer: &mut [u8], no: u8) -> Written
-    ensures { λ r. ⌜ (r ≡ putAnswer (refusedText no) (now (buffer .entry))) × (now (buffer .exit) ≡ afterPut (refusedText no) (now (buffer .entry))) ⌝ }
+    ensures { λ r. ⌜ (r ≡ textWritten (refusedText no) (now (buffer .entry))) × (now (buffer .exit) ≡ afterText (refusedText no) (now (buffer .entry))) ⌝ }
 {
     let number = no as u64;
     if buffer.len() < 18 + text::decimal_width(number) {
@@ -262,7 +263,7 @@ const MOST_ANSWERS: usize = 8_192;
 // The text of a run from fresh.
 fn print_run(buffer: &mut [u8], events: &[u64], header: Header) -> Written
     requires { ⌜ (sizesInRange (header .sizes) ≡ true) × ((header .events ≤ mostEvents) × (3 * header .events ≤ length (now events))) ⌝ }
-    ensures { λ r. ⌜ (r ≡ putAnswer (textOfRun (header .sizes) (now (events .entry)) (header .events)) (now (buffer .entry))) × (now (buffer .exit) ≡ afterPut (textOfRun (header .sizes) (now (events .entry)) (header .events)) (now (buffer .entry))) ⌝ }
+    ensures { λ r. ⌜ (r ≡ textWritten (textOfRun (header .sizes) (now (events .entry)) (header .events)) (now (buffer .entry))) × (now (buffer .exit) ≡ afterText (textOfRun (header .sizes) (now (events .entry)) (header .events)) (now (buffer .entry))) ⌝ }
 {
     let mut log: [u64; MOST_ANSWERS] = [0; MOST_ANSWERS];
     machine::calls::whole_run(header.sizes, events, &mut log, header.events);
@@ -271,7 +272,7 @@ fn print_run(buffer: &mut [u8], events: &[u64], header: Header) -> Written
 
 // What the bytes of a schedule print: the text goes into the buffer, and its length is answered.
 pub fn print(buffer: &mut [u8], bytes: &[u8]) -> Written
-    ensures { λ r. ⌜ (r ≡ putAnswer (text (now (bytes .entry))) (now (buffer .entry))) × (now (buffer .exit) ≡ afterPut (text (now (bytes .entry))) (now (buffer .entry))) ⌝ }
+    ensures { λ r. ⌜ (r ≡ textWritten (text (now (bytes .entry))) (now (buffer .entry))) × (now (buffer .exit) ≡ afterText (text (now (bytes .entry))) (now (buffer .entry))) × (writtenNo r ≡ textWrittenNo (text (now (bytes .entry))) (now (buffer .entry))) ⌝ }
 {
     let mut room: [u64; MOST_NUMBERS] = [0; MOST_NUMBERS];
     let read = schedule::read_schedule(&mut room, bytes);

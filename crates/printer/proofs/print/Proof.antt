@@ -4,8 +4,9 @@ use mathlib.Core.List.{List}
 use Prim.Native.Nat.{ℕ, _*_, _≤_}
 use lib.ListN.{length, replicate, length-replicate}
 use borrow.Author.Needs.{needs}
-use Rattle.printer.specs.Text.{putAnswer, afterPut}
-use Rattle.printer.specs.Printing.{textOfRun}
+use Rattle.printer.specs.Text.{textWritten, afterText}
+use Rattle.printer.proofs.Adding.{numbered}
+use Rattle.printer.specs.Printing.{textOfRun, text}
 use Rattle.printer.proofs.Printing.{ran, refused-printed}
 use Rattle.printer.proofs.print.Statement.{statement}
 use Rattle.printer.proofs.print.Tie as tie
@@ -54,7 +55,7 @@ returns c =
     let r = ran (a .bytes .now) room size (told .0 .0) (sym (read .ensures .0) ∙ told .1) in
     let same = ap (λ (l : List ℕ). textOfRun (told .0 .0 .sizes) l (told .0 .0 .events)) (read .ensures .1) ∙ r .same in
     let done = c .before .before .print-run .ensures in
-    (done .0 ∙ ap (λ (t : List ℕ). putAnswer t (a .buffer .now)) same, done .1 ∙ ap (λ (t : List ℕ). afterPut t (a .buffer .now)) same)
+    numbered (text (a .bytes .now)) (a .buffer .now) (done .0 ∙ ap (λ (t : List ℕ). textWritten t (a .buffer .now)) same) (done .1 ∙ ap (λ (t : List ℕ). afterText t (a .buffer .now)) same)
 
 same-length-2 : tie.Need-same-length-2
 same-length-2 c = search needs
@@ -66,7 +67,7 @@ returns-2 c =
     let a = c .before .before .before .before .before .before .before .before .before .before .before .before .args in
     let same = refused-printed (a .bytes .now) room size (told .0 .0) (sym (read .ensures .0) ∙ told .1) in
     let done = c .before .before .print-refusal .ensures in
-    (done .0 ∙ ap (λ (t : List ℕ). putAnswer t (a .buffer .now)) same, done .1 ∙ ap (λ (t : List ℕ). afterPut t (a .buffer .now)) same)
+    numbered (text (a .bytes .now)) (a .buffer .now) (done .0 ∙ ap (λ (t : List ℕ). textWritten t (a .buffer .now)) same) (done .1 ∙ ap (λ (t : List ℕ). afterText t (a .buffer .now)) same)
 
 pub print-spec : {M : Type 1} → statement M
 print-spec =

@@ -89,8 +89,8 @@ abbrev pub unreadWith : {H : Type 0} → ℕ → FormRead H
 unreadWith n = unread (record { no = n })
 
 -- what is read, unless n refuses it
-abbrev pub unlessRefused : {H : Type 0} → ℕ → FormRead H → FormRead H
-unlessRefused n o = if eqb n 0 then o else unreadWith n
+abbrev pub readUnless : {H : Type 0} → ℕ → FormRead H → FormRead H
+readUnless n o = if eqb n 0 then o else unreadWith n
 
 -- the numbers after a header, and then the end: 13 where bytes follow
 unfoldable pub whole : {H : Type 0} → List ℕ → H → Outcome → FormRead H
@@ -115,7 +115,7 @@ roomNo o room =
     ⨾ ok
 
 unfoldable pub intoRoom : {H : Type 0} → FormRead H → List ℕ → FormRead H
-intoRoom o room = unlessRefused (roomNo o room) o
+intoRoom o room = readUnless (roomNo o room) o
 
 -- the room after it: the numbers fill its first places; a refusal leaves it as it was
 unfoldable pub afterRoom : {H : Type 0} → FormRead H → List ℕ → List ℕ

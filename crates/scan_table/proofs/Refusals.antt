@@ -15,7 +15,7 @@ use Rattle.numbers.specs.declared.Refusal.{Refusal}
 use Rattle.numbers.specs.declared.Read.{Read}
 use Rattle.numbers.specs.declared.Read.the-variants as read
 use Rattle.numbers.proofs.CodingLaws.{refusals}
-use Rattle.forms.specs.Forms.{Outcome, got, refused, refusedWith, Test, testRead, prepend, andThen, row, rows, FormRead, readAs, unread, unreadWith, unlessRefused, whole, rowNo, rowsNo, asRead}
+use Rattle.forms.specs.Forms.{Outcome, got, refused, refusedWith, Test, testRead, prepend, andThen, row, rows, FormRead, readAs, unread, unreadWith, readUnless, whole, rowNo, rowsNo, asRead}
 use Rattle.forms.proofs.Outcomes.{refused-got}
 use Rattle.forms.proofs.Rooms.{unread-read}
 
@@ -138,7 +138,7 @@ module _ (P : ℕ → Type 0) where
           rw (← q) p
 
   -- a refusal, and then a form
-  pub unless-refuses : {H : Type 0} (n : ℕ) (f : FormRead H) → ((n ≡ 0 → ⊥) → P n) → Unreads P f → Unreads P (unlessRefused n f)
+  pub unless-refuses : {H : Type 0} (n : ℕ) (f : FormRead H) → ((n ≡ 0 → ⊥) → P n) → Unreads P f → Unreads P (readUnless n f)
   unless-refuses n f p h = go (eqb n 0) refl
     where
       go : (t : Bool) → eqb n 0 ≡ t → Unreads P (if t then f else unreadWith n)

@@ -11,7 +11,7 @@ use Rattle.numbers.specs.declared.Limit.the-variants.{Table}
 use Rattle.numbers.specs.declared.Read.{Read}
 use Rattle.numbers.specs.declared.Read.the-variants as read
 use Rattle.numbers.specs.declared.Written.{Written}
-use Rattle.forms.specs.Forms.{Test, rows, FormRead, readAs, unread, unlessRefused, whole, forms, rowsNo, asRead}
+use Rattle.forms.specs.Forms.{Test, rows, FormRead, readAs, unread, readUnless, whole, forms, rowsNo, asRead}
 use Rattle.scan_table.specs.declared.Scan.{Scan}
 use Rattle.scan_table.specs.declared.TableRead.{TableRead}
 use Rattle.scan_table.specs.declared.TableRead.the-variants as table
@@ -75,7 +75,7 @@ tableNo tests fields =
 -- S is tested at once; then per record tag, shelf, device, time, each range tested when read; then the end
 unfoldable pub afterSize : List ℕ → Read → FormRead ℕ
 afterSize bytes (read.Number s next) =
-    unlessRefused (sizeNo s) (whole bytes s (rows s scanTests Table bytes next))
+    readUnless (sizeNo s) (whole bytes s (rows s scanTests Table bytes next))
 afterSize bytes (read.Refused r) = unread r
 
 -- what reading a table gives: S and the numbers of its records, or a refusal

@@ -10,7 +10,7 @@ use Rattle.sizes.specs.declared.Sizes.{Sizes}
 use Rattle.numbers.specs.Coding.{mostOf, putNo, putAnswer, afterPut}
 use Rattle.numbers.specs.declared.Limit.the-variants as limit
 use Rattle.numbers.specs.declared.Written.{Written}
-use Rattle.forms.specs.Forms.{Outcome, got, refused, plain, FormRead, readAs, unread, unlessRefused, whole, forms, allWithin}
+use Rattle.forms.specs.Forms.{Outcome, got, refused, plain, FormRead, readAs, unread, readUnless, whole, forms, allWithin}
 use Rattle.schedule.specs.declared.Header.{Header}
 use Rattle.schedule.specs.declared.ScheduleRead.{ScheduleRead}
 use Rattle.schedule.specs.declared.ScheduleRead.the-variants as schedule
@@ -51,7 +51,7 @@ headerNo h =
 -- after the six come E events of code, a, b, and then the end; codes are not tested
 unfoldable pub afterSix : List ℕ → Outcome → FormRead Header
 afterSix bytes (got six next) =
-    unlessRefused (headerNo (headerOf six))
+    readUnless (headerNo (headerOf six))
     (whole bytes (headerOf six) (plain (headerOf six .events * 3) limit.Schedule bytes next))
 afterSix bytes (refused r) = unread r
 

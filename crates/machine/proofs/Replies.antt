@@ -11,7 +11,7 @@ use Rattle.model.specs.Rules.{accepts, accepting, gaining, answering}
 use Rattle.model.specs.declared.Acceptor.{Acceptor}
 use Rattle.machine.specs.declared.acceptors.Reply.{Reply}
 use Rattle.machine.specs.declared.acceptors.Reply.the-variants.{Accepted, Rejected, Refused}
-use Rattle.machine.specs.Acceptors.{replyNo, answerNo, replying, replyTo, recordAfter}
+use Rattle.machine.specs.Acceptors.{replyNo, answeringNo, replying, replyTo, recordAfter}
 
 abbrev isRefusal : Reply → Bool
 isRefusal (Accepted v) = false
@@ -30,30 +30,30 @@ setOf (Refused n) = empty
 
 module _ (s : ℕ) (q : Acceptor) (v : Scans) where
   -- of every reply, what holds of a proposal that is answered and of a refusal
-  by-number : (Q : Reply → Type 0) → (eqb (answerNo s q v) 0 ≡ true → Q (replying q v)) → (eqb (answerNo s q v) 0 ≡ false → Q (Refused (answerNo s q v))) → Q (replyTo s q v)
+  by-number : (Q : Reply → Type 0) → (eqb (answeringNo s q v) 0 ≡ true → Q (replying q v)) → (eqb (answeringNo s q v) 0 ≡ false → Q (Refused (answeringNo s q v))) → Q (replyTo s q v)
   unfolding replyTo
-  by-number Q f g = if-ind Q (eqb (answerNo s q v) 0) (replying q v) (Refused (answerNo s q v)) f g
+  by-number Q f g = if-ind Q (eqb (answeringNo s q v) 0) (replying q v) (Refused (answeringNo s q v)) f g
 
   -- of one that is answered, what holds where it is accepted and where it is rejected
   by-rule : (Q : Reply → Type 0) → (accepts q v ≡ true → Q (Accepted v)) → (accepts q v ≡ false → Q (Rejected (gaining q v .accepted))) → Q (replying q v)
   by-rule Q f g = if-ind Q (accepts q v) (Accepted v) (Rejected (gaining q v .accepted)) f g
 
-  pub reply-number : replyNo (replyTo s q v) ≡ answerNo s q v
+  pub reply-number : replyNo (replyTo s q v) ≡ answeringNo s q v
   reply-number =
-      by-number (λ r. replyNo r ≡ answerNo s q v) (λ e. by-rule (λ r. replyNo r ≡ 0) (λ f. refl) (λ f. refl) ∙ sym (eqb-true (answerNo s q v) 0 e)) (λ e. refl)
+      by-number (λ r. replyNo r ≡ answeringNo s q v) (λ e. by-rule (λ r. replyNo r ≡ 0) (λ f. refl) (λ f. refl) ∙ sym (eqb-true (answeringNo s q v) 0 e)) (λ e. refl)
 
   -- a reply that is a refusal has a number other than 0
-  refusal-number : isRefusal (replyTo s q v) ≡ not (eqb (answerNo s q v) 0)
+  refusal-number : isRefusal (replyTo s q v) ≡ not (eqb (answeringNo s q v) 0)
   refusal-number =
-      by-number (λ r. isRefusal r ≡ not (eqb (answerNo s q v) 0)) (λ e. rw e (by-rule (λ r. isRefusal r ≡ false) (λ f. refl) (λ f. refl))) (λ e. rw e refl)
+      by-number (λ r. isRefusal r ≡ not (eqb (answeringNo s q v) 0)) (λ e. rw e (by-rule (λ r. isRefusal r ≡ false) (λ f. refl) (λ f. refl))) (λ e. rw e refl)
 
-  pub told-refused : {r : Reply} {n : ℕ} → r ≡ replyTo s q v → r ≡ Refused n → (answerNo s q v ≡ n) × (eqb n 0 ≡ false)
+  pub told-refused : {r : Reply} {n : ℕ} → r ≡ replyTo s q v → r ≡ Refused n → (answeringNo s q v ≡ n) × (eqb n 0 ≡ false)
   told-refused {n = n} e f =
-      let g : answerNo s q v ≡ n = sym reply-number ∙ ap replyNo (sym e ∙ f) in
-      (g, ap (λ (m : ℕ). eqb m 0) (sym g) ∙ not-true (eqb (answerNo s q v) 0) (sym refusal-number ∙ ap isRefusal (sym e ∙ f)))
+      let g : answeringNo s q v ≡ n = sym reply-number ∙ ap replyNo (sym e ∙ f) in
+      (g, ap (λ (m : ℕ). eqb m 0) (sym g) ∙ not-true (eqb (answeringNo s q v) 0) (sym refusal-number ∙ ap isRefusal (sym e ∙ f)))
 
   -- where nothing is refused
-  module _ (z : answerNo s q v ≡ 0) where
+  module _ (z : answeringNo s q v ≡ 0) where
     replied : replyTo s q v ≡ replying q v
     unfolding replyTo
     replied = rw z refl
@@ -70,15 +70,15 @@ module _ (s : ℕ) (q : Acceptor) (v : Scans) where
     record-left = rw z refl
 
   pub told-accepted : {r : Reply} {w : Scans} → r ≡ replyTo s q v → r ≡ Accepted w
-      → (answerNo s q v ≡ 0) × (accepts q v ≡ true) × (w ≡ answering q v .accepted)
+      → (answeringNo s q v ≡ 0) × (accepts q v ≡ true) × (w ≡ answering q v .accepted)
   told-accepted e f =
       let g = sym e ∙ f in
-      let z : answerNo s q v ≡ 0 = sym reply-number ∙ ap replyNo g in
+      let z : answeringNo s q v ≡ 0 = sym reply-number ∙ ap replyNo g in
       (z, sym (accepted-told z) ∙ ap isAccepted g, ap setOf (sym g) ∙ set-told z)
 
   pub told-rejected : {r : Reply} {w : Scans} → r ≡ replyTo s q v → r ≡ Rejected w
-      → (answerNo s q v ≡ 0) × (accepts q v ≡ false) × (w ≡ answering q v .accepted)
+      → (answeringNo s q v ≡ 0) × (accepts q v ≡ false) × (w ≡ answering q v .accepted)
   told-rejected e f =
       let g = sym e ∙ f in
-      let z : answerNo s q v ≡ 0 = sym reply-number ∙ ap replyNo g in
+      let z : answeringNo s q v ≡ 0 = sym reply-number ∙ ap replyNo g in
       (z, sym (accepted-told z) ∙ ap isAccepted g, ap setOf (sym g) ∙ set-told z)

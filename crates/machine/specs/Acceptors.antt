@@ -18,8 +18,8 @@ replyNo (Rejected set) = 0
 replyNo (Refused n) = n
 
 -- 1 for S and the record, 3 for a set not within S, 5 it has crashed
-unfoldable pub answerNo : ℕ → Acceptor → Scans → ℕ
-answerNo s q v =
+unfoldable pub answeringNo : ℕ → Acceptor → Scans → ℕ
+answeringNo s q v =
     1 unless scansInRange s
     ⨾ 1 unless fits (q .accepted) s
     ⨾ 3 unless fits v s
@@ -31,8 +31,8 @@ abbrev pub replying : Acceptor → Scans → Reply
 replying q v = if accepts q v then Accepted v else Rejected (gaining q v .accepted)
 
 unfoldable pub replyTo : ℕ → Acceptor → Scans → Reply
-replyTo s q v = if eqb (answerNo s q v) 0 then replying q v else Refused (answerNo s q v)
+replyTo s q v = if eqb (answeringNo s q v) 0 then replying q v else Refused (answeringNo s q v)
 
 -- a refusal leaves the record
 unfoldable pub recordAfter : ℕ → Acceptor → Scans → Acceptor
-recordAfter s q v = if eqb (answerNo s q v) 0 then answering q v else q
+recordAfter s q v = if eqb (answeringNo s q v) 0 then answering q v else q

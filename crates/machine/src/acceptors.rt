@@ -1,6 +1,6 @@
 // One acceptor's answer to a proposal, on the record that a caller lends. It tests all that it is given.
 ghost use mathlib.Core.Path.{_≡_};
-ghost use Rattle.machine.specs.Acceptors.{replyNo, answerNo, replyTo, recordAfter};
+ghost use Rattle.machine.specs.Acceptors.{replyNo, answeringNo, replyTo, recordAfter};
 use model::Acceptor;
 use sets::scans::Scans;
 use sizes::scans_in_range;
@@ -20,7 +20,7 @@ pub struct Answered {
 
 // The first refusal, or 0: 1 for the number of scans and the record, 3 for the set, 5 where the acceptor has crashed.
 fn answer_no(scans: u64, before: Acceptor, set: Scans) -> u8
-    ensures { λ r. ⌜ r ≡ answerNo scans before set ⌝ }
+    ensures { λ r. ⌜ r ≡ answeringNo scans before set ⌝ }
 {
     if !scans_in_range(scans) {
         return 1;
@@ -62,7 +62,7 @@ fn record_after(scans: u64, before: Acceptor, set: Scans) -> Acceptor
 
 // One acceptor's answer to a proposal of a set, on the record that a caller lends: the rule's, by value, is stored over it.
 pub fn answer_proposal(scans: u64, acceptor: &mut Acceptor, set: Scans) -> Reply
-    ensures { λ r. ⌜ (r ≡ replyTo scans (now (acceptor .entry)) set) × (replyNo r ≡ answerNo scans (now (acceptor .entry)) set) × (now (acceptor .exit) ≡ recordAfter scans (now (acceptor .entry)) set) ⌝ }
+    ensures { λ r. ⌜ (r ≡ replyTo scans (now (acceptor .entry)) set) × (replyNo r ≡ answeringNo scans (now (acceptor .entry)) set) × (now (acceptor .exit) ≡ recordAfter scans (now (acceptor .entry)) set) ⌝ }
 {
     let before = *acceptor;
     let reply = reply_to(scans, before, set);

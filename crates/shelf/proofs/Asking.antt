@@ -26,7 +26,7 @@ use Rattle.shelf.specs.declared.Newest.{Newest}
 use Rattle.shelf.specs.declared.Newest.the-variants.{Nothing, Found}
 use Rattle.shelf.specs.declared.Shelf.{Shelf}
 use Rattle.shelf.specs.declared.Shelf.the-variants as shelf
-use Rattle.shelf.specs.Shelf.{seenAt, isCandidate, better, newest, shown, refusedShelf, questionNo, answerOf, ask, whereIs, whereIsNo, whereIsWritten, whereIsWrittenNo, askedNo}
+use Rattle.shelf.specs.Shelf.{seenAt, isCandidate, better, newest, shown, refusedShelf, questionNo, askedWith, ask, whereIs, whereIsNo, whereIsWritten, whereIsWrittenNo, askedNo}
 
 -- ---- one scan more
 
@@ -84,23 +84,23 @@ table-most fields e = scans-ranged (scansIn fields) (table-passes scanTests fiel
 module _ (n : ℕ) (fields : List ℕ) (set : Scans) (tag : ℕ) where
   -- the tag is too large
   pub ask-tag : 2 ^ 32 - 1 < tag → ask n fields set tag ≡ refusedShelf 3
-  unfolding ask answerOf questionNo tagNo
+  unfolding ask askedWith questionNo tagNo
   ask-tag h = rw (lt-leb tag (2 ^ 32 - 1) h)
 
   -- the set holds a scan not below n
   pub ask-set : tag ≤ 2 ^ 32 - 1 → fits set n ≡ false → ask n fields set tag ≡ refusedShelf 3
-  unfolding ask answerOf questionNo tagNo
+  unfolding ask askedWith questionNo tagNo
   ask-set h e = rw (le-leb tag (2 ^ 32 - 1) h, e)
 
   -- the newest is shown
   pub ask-newest : tag ≤ 2 ^ 32 - 1 → fits set n ≡ true → ask n fields set tag ≡ shown (newest n fields set tag)
-  unfolding ask answerOf questionNo tagNo
+  unfolding ask askedWith questionNo tagNo
   ask-newest h e = rw (le-leb tag (2 ^ 32 - 1) h, e)
 
 module _ (fields : List ℕ) (set : Scans) (tag : ℕ) where
   -- the table is refused
   pub where-refused : (tableNo scanTests fields ≡ 0 → ⊥) → whereIs fields set tag ≡ refusedShelf (tableNo scanTests fields)
-  unfolding whereIs whereIsNo answerOf
+  unfolding whereIs whereIsNo askedWith
   where-refused h = rw (stands (tableNo scanTests fields) (questionNo (scansIn fields) set tag) h, ne-eqb (tableNo scanTests fields) 0 h)
 
   -- the question is asked
@@ -116,8 +116,8 @@ unfolding shown
 shown-number Nothing = refl
 shown-number (Found seen) = refl
 
-answer-number : (r n : ℕ) (fields : List ℕ) (set : Scans) (tag : ℕ) → askedNo (answerOf r n fields set tag) ≡ r
-unfolding answerOf
+answer-number : (r n : ℕ) (fields : List ℕ) (set : Scans) (tag : ℕ) → askedNo (askedWith r n fields set tag) ≡ r
+unfolding askedWith
 answer-number r n fields set tag = go (eqb r 0) refl
   where
     go : (t : Bool) → eqb r 0 ≡ t → askedNo (if t then shown (newest n fields set tag) else refusedShelf r) ≡ r
@@ -155,7 +155,7 @@ written-most bytes room {n} e = scans-most bytes (read-scans bytes room n e .acc
 
 -- tables that agree have the same question
 pub ask-same : (n : ℕ) (a b : List ℕ) (set : Scans) (tag : ℕ) → Agree n a b → ask n a set tag ≡ ask n b set tag
-unfolding ask answerOf
+unfolding ask askedWith
 ask-same n a b set tag h = rw (newest-same n a b set tag h)
 
 -- numbers stored at the start of room that holds them stand there

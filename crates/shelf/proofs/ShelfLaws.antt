@@ -27,7 +27,7 @@ use Rattle.shelf.specs.declared.Newest.{Newest}
 use Rattle.shelf.specs.declared.Newest.the-variants.{Nothing, Found}
 use Rattle.shelf.specs.declared.Shelf.{Shelf}
 use Rattle.shelf.specs.declared.Shelf.the-variants as answer
-use Rattle.shelf.specs.Shelf.{seenAt, comesBefore, isCandidate, better, newest, shown, refusedShelf, questionNo, answerOf, ask, whereIs, whereIsNo, whereIsWritten, askedNo}
+use Rattle.shelf.specs.Shelf.{seenAt, comesBefore, isCandidate, better, newest, shown, refusedShelf, questionNo, askedWith, ask, whereIs, whereIsNo, whereIsWritten, askedNo}
 use Rattle.shelf.proofs.Asking.{ask-newest, where-asked}
 
 -- ---- the order
@@ -331,8 +331,8 @@ pub record ShownBy (r n : ℕ) (fields : List ℕ) (set : Scans) (tag : ℕ) (i 
   pub shelf : s ≡ seen .scan .shelf
   pub time : t ≡ seen .scan .time
 
-answer-shown : (r n : ℕ) (fields : List ℕ) (set : Scans) (tag : ℕ) {i : ScanId} {s t : ℕ} → answerOf r n fields set tag ≡ answer.Shown i s t → ShownBy r n fields set tag i s t
-unfolding answerOf shown
+answer-shown : (r n : ℕ) (fields : List ℕ) (set : Scans) (tag : ℕ) {i : ScanId} {s t : ℕ} → askedWith r n fields set tag ≡ answer.Shown i s t → ShownBy r n fields set tag i s t
+unfolding askedWith shown
 answer-shown r n fields set tag {i} {s} {t} e = go (eqb r 0) refl (newest n fields set tag) refl e
   where
     go : (b : Bool) → eqb r 0 ≡ b → (x : Newest) → newest n fields set tag ≡ x → (if b then shown x else refusedShelf r) ≡ answer.Shown i s t → ShownBy r n fields set tag i s t
@@ -398,8 +398,8 @@ written-later (unread r) n tag c h f e = absurd (refused-shown e)
 -- ---- refusals
 
 -- a refusal of an answer is the one that refused it
-answer-refused : (k n : ℕ) (fields : List ℕ) (set : Scans) (tag : ℕ) (r : Refusal) → answerOf k n fields set tag ≡ answer.Refused r → (r .no ≡ k) × (k ≡ 0 → ⊥)
-unfolding answerOf shown
+answer-refused : (k n : ℕ) (fields : List ℕ) (set : Scans) (tag : ℕ) (r : Refusal) → askedWith k n fields set tag ≡ answer.Refused r → (r .no ≡ k) × (k ≡ 0 → ⊥)
+unfolding askedWith shown
 answer-refused k n fields set tag r e = go (eqb k 0) refl (newest n fields set tag) e
   where
     go : (b : Bool) → eqb k 0 ≡ b → (x : Newest) → (if b then shown x else refusedShelf k) ≡ answer.Refused r → (r .no ≡ k) × (k ≡ 0 → ⊥)

@@ -58,11 +58,11 @@ shown Nothing = shelf.Nowhere
 shown (Found seen) = shelf.Shown (seen .number) (seen .scan .shelf) (seen .scan .time)
 
 -- the answer on a table of n scans, unless r refuses the question
-unfoldable pub answerOf : ℕ → ℕ → List ℕ → Scans → ℕ → Shelf
-answerOf r n fields set tag = if eqb r 0 then shown (newest n fields set tag) else refusedShelf r
+unfoldable pub askedWith : ℕ → ℕ → List ℕ → Scans → ℕ → Shelf
+askedWith r n fields set tag = if eqb r 0 then shown (newest n fields set tag) else refusedShelf r
 
 unfoldable pub ask : ℕ → List ℕ → Scans → ℕ → Shelf
-ask n fields set tag = answerOf (questionNo n set tag) n fields set tag
+ask n fields set tag = askedWith (questionNo n set tag) n fields set tag
 
 -- on a table that has been read, tested first is the table, in its reader's order
 unfoldable pub whereIsNo : List ℕ → Scans → ℕ → ℕ
@@ -71,7 +71,7 @@ whereIsNo fields set tag =
     ⨾ questionNo (scansIn fields) set tag
 
 unfoldable pub whereIs : List ℕ → Scans → ℕ → Shelf
-whereIs fields set tag = answerOf (whereIsNo fields set tag) (scansIn fields) fields set tag
+whereIs fields set tag = askedWith (whereIsNo fields set tag) (scansIn fields) fields set tag
 
 -- on the written form, by what reading it gave: its refusal, or the question's
 unfoldable pub whereIsWrittenNo : FormRead ℕ → Scans → ℕ → ℕ

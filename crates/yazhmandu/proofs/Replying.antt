@@ -13,7 +13,7 @@ use Rattle.sizes.specs.Sizes.{scansInRange, sizesInRange}
 use Rattle.model.specs.Rules.{accepts, answering}
 use Rattle.model.specs.Ranges.{acceptorInRange}
 use Rattle.model.specs.declared.Acceptor.{Acceptor}
-use Rattle.machine.specs.Acceptors.{answerNo, replyTo, recordAfter}
+use Rattle.machine.specs.Acceptors.{answeringNo, replyTo, recordAfter}
 use Rattle.machine.specs.declared.acceptors.Reply.{Reply}
 use Rattle.machine.specs.declared.acceptors.Reply.the-variants.{Accepted, Rejected, Refused}
 use Rattle.machine.proofs.Replies.{told-accepted, told-rejected, told-refused, record-left}
@@ -55,8 +55,8 @@ module _ (s : ℕ) (kept set old : List ℕ) where
       v = setAt set 0
 
       -- past the record and the set's length, the tests are the machine's
-      same-number : proposalNo s kept set ≡ answerNo s q v
-      unfolding proposalNo isSet answerNo
+      same-number : proposalNo s kept set ≡ answeringNo s q v
+      unfolding proposalNo isSet answeringNo
       same-number = rw (e, f, in-range, fitting) refl
 
       -- what the machine's call hands back, on the record and the set that stand in the bytes
@@ -73,7 +73,7 @@ module _ (s : ℕ) (kept set old : List ℕ) where
             refused-by n (t .1) (same-number ∙ t .0)
 
         -- one that is answered
-        answered : (t : Bool) {w : Scans} {k b : List ℕ} → length old ≡ 9 → (answerNo s q v ≡ 0) × (accepts q v ≡ t) × (w ≡ answering q v .accepted)
+        answered : (t : Bool) {w : Scans} {k b : List ℕ} → length old ≡ 9 → (answeringNo s q v ≡ 0) × (accepts q v ≡ t) × (w ≡ answering q v .accepted)
             → k ≡ sets kept 0 (flagged (after .alive) (after .accepted)) → b ≡ sets old 0 (flagged t w) → Replied 0 k b
         unfolding answerRecord answerReply acceptorBytes
         answered t {w} nine told g h =

@@ -197,7 +197,7 @@ module _ {M : Type 1} (𝓤 : URA M) (H : Heap 𝓤) (A : Atoms 𝓤) (W : Given
         use1 W (later (some (λ (y : Reply). ((‵ (flft (ν ∷ []) fullShare) ⊛ ‵ ftrue) ⊛ ‵ (Re.the-row .own y (w ∷ [])))
         ⊛ some (λ (ws : Lasts answer.ended (ν ∷ [], tt) (s, (x l₄ δ, (v, tt)))). ‵ (lasts answer.ended (ν ∷ [], tt) (s, (x l₄ δ, (v, tt))) ws) ⊛ raw (answer.clauses 𝓤 H A at-mem run (ν ∷ [], tt) (s, (x l₄ δ, (v, tt))) .ensures tt y (atExit answer.ended (ν ∷ [], tt) (s, (x l₄ δ, (v, tt))) ws)))))) (id⊢ 𝓤 _) $ await ! tt $ pick ! (λ y.
         split ! $ move ! (1 ∷ []) $ pick ! (λ ws. split ! $ move ! (1 ∷ []) $
-        use1 W (raw (fact 𝓤 ((y ≡ r) × (specs.replyNo y ≡ specs.answerNo s c v) × (ws .1 .0 ≡ c′)))) (id⊢ 𝓤 _) $ heard ! ((y ≡ r) × (specs.replyNo y ≡ specs.answerNo s c v) × (ws .1 .0 ≡ c′)) (λ e.
+        use1 W (raw (fact 𝓤 ((y ≡ r) × (specs.replyNo y ≡ specs.answeringNo s c v) × (ws .1 .0 ≡ c′)))) (id⊢ 𝓤 _) $ heard ! ((y ≡ r) × (specs.replyNo y ≡ specs.answeringNo s c v) × (ws .1 .0 ≡ c′)) (λ e.
         -- [the last values; the token, the reply; the lender's part; …]
         fsplit ! $ drop ! $ fsplit ! $ move ! (1 ∷ []) $ drop ! $ rewrite ! 0 (λ (u : Acceptor). ‵ (fres δ (Ac.the-row .coded .code u))) (e .2) refl $
         move ! (1 ∷ []) $ split ! $ move ! (1 ∷ []) $ peeks ! Re.the-row (Is Re.the-row) (shows 𝓤 H A Re.the-row) y (w ∷ []) (λ is. drop ! $ split ! $ move ! (1 ∷ []) $ drop ! $

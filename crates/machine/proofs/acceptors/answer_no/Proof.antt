@@ -3,7 +3,7 @@ use native.Mathlib.Omega.{arith}
 use borrow.Author.Needs.{needs}
 use borrow.Author.Tests.{not-true, not-false}
 use Rattle.sizes.proofs.SizeLaws.{scans-ranged}
-use Rattle.machine.specs.Acceptors.{answerNo}
+use Rattle.machine.specs.Acceptors.{answeringNo}
 use Rattle.machine.proofs.acceptors.answer_no.Statement.{statement}
 use Rattle.machine.proofs.acceptors.answer_no.Tie as tie
 
@@ -11,7 +11,7 @@ scans-in-range-requires : tie.Need-scans-in-range-requires
 scans-in-range-requires c κs = search needs
 
 returns : tie.Need-returns
-unfolding answerNo
+unfolding answeringNo
 returns c = simp (sym (c .before .scans-in-range .ensures) ∙ not-true _ (c .if1 .taken))
 
 cast-scans : tie.Need-cast-scans
@@ -22,7 +22,7 @@ fits-requires : tie.Need-fits-requires
 fits-requires c κs = search needs
 
 returns-2 : tie.Need-returns-2
-unfolding answerNo
+unfolding answeringNo
 returns-2 c =
     let t = c .before .before in
     let e = sym (t .before .scans-in-range .ensures) ∙ not-false _ (t .if1 .left) in
@@ -32,7 +32,7 @@ fits-requires-2 : tie.Need-fits-requires-2
 fits-requires-2 c κs = search needs
 
 returns-3 : tie.Need-returns-3
-unfolding answerNo
+unfolding answeringNo
 returns-3 c =
     let u = c .before .before in
     let t = u .before .before in
@@ -41,7 +41,7 @@ returns-3 c =
     simp (e, f, sym (c .before .fits3 .ensures) ∙ not-true _ (c .if3 .taken))
 
 returns-4 : tie.Need-returns-4
-unfolding answerNo
+unfolding answeringNo
 returns-4 c =
     let v = c .before in
     let u = v .before .before in
@@ -52,7 +52,7 @@ returns-4 c =
     simp (e, f, g, c .if4 .taken)
 
 returns-5 : tie.Need-returns-5
-unfolding answerNo
+unfolding answeringNo
 returns-5 c =
     let v = c .before in
     let u = v .before .before in

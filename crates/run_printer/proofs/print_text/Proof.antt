@@ -2,11 +2,11 @@
 use mathlib.Core.Path.{_≡_, sym, ap, _∙_}
 use Prim.Native.Nat.{ℕ}
 use native.Mathlib.Omega.{arith}
-use lib.Seq.{sets}
+use lib.ListN.{length}
 use borrow.Author.Needs.{needs}
-use Rattle.numbers.specs.Coding.{leaves, writtenNext}
+use Rattle.numbers.specs.Coding.{writtenNext}
 use Rattle.numbers.specs.declared.Written.{Written}
-use Rattle.printer.specs.Text.{afterPut}
+use Rattle.numbers.proofs.Puts.{put-next}
 use Rattle.printer.specs.Printing.{text}
 use Rattle.printer.proofs.Printing.{never-eight}
 use Rattle.run_printer.proofs.print_text.Statement.{statement}
@@ -25,14 +25,13 @@ same-length : tie.Need-same-length
 same-length c = search needs
 
 returns : tie.Need-returns
-unfolding afterPut
 returns c =
     let start = c .before .before .before .before .before .before .before .before .before in
     let bytes = start .args .bytes .now in
     let output = start .args .output .now in
     let done = c .before .before .before .before .before .print .ensures in
     let whole = never-eight bytes output (start .pre) in
-    (ap (λ (w : Written). writtenNext w 0) (sym (c .before .printed .given .1) ∙ done .0 ∙ whole), done .1 ∙ ap (λ (w : Written). leaves w (sets output 0 (text bytes)) output) whole)
+    (ap (λ (w : Written). writtenNext w 0) (sym (c .before .printed .given .1) ∙ done .0 ∙ whole), done .1 ∙ put-next 0 (text bytes) output 0 (length (text bytes)) whole .buffer)
 
 same-length-2 : tie.Need-same-length-2
 same-length-2 c = search needs

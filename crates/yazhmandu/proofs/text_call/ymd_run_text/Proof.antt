@@ -22,8 +22,8 @@ returns : tie.Need-returns
 returns c =
     let a = c .before .before .before .before .before .before .before .before .before .args in
     let w = c .before .before .before .before .before .print .ensures in
-    let e = sym (c .before .printed .given .1) ∙ w .0 in
-    (ap writtenNo e, w .1, ap (λ (x : Written). writtenNext x (a .length .now)) e)
+    let e = sym (c .before .printed .given .1) in
+    (ap writtenNo e ∙ w .2, w .1, ap (λ (x : Written). writtenNext x (a .length .now)) (e ∙ w .0))
 
 same-length-2 : tie.Need-same-length-2
 same-length-2 c = search needs
@@ -32,8 +32,8 @@ returns-2 : tie.Need-returns-2
 returns-2 c =
     let a = c .before .before .before .before .before .before .before .before .before .args in
     let w = c .before .before .before .before .before .print .ensures in
-    let e = sym (c .before .printed2 .given .1) ∙ w .0 in
-    (ap writtenNo e, w .1, ap (λ (x : Written). writtenNext x (a .length .now)) e)
+    let e = sym (c .before .printed2 .given .1) in
+    (ap writtenNo e ∙ w .2, w .1, ap (λ (x : Written). writtenNext x (a .length .now)) (e ∙ w .0))
 
 pub ymd-run-text-spec : {M : Type 1} → statement M
 ymd-run-text-spec =

@@ -5,18 +5,17 @@ use mathlib.Core.Bool.{Bool, true, false, false≢true}
 use mathlib.Core.List.{List, [], _∷_, _++_, map}
 use Prim.Native.Nat.{ℕ, _+_, _≤_}
 use native.Mathlib.Omega.{arith}
-use lib.Dec.{ltb}
+use lib.Dec.{leb}
 use lib.ListN.{length, take, drop}
-use lib.Seq.{sets, sets-eq, take-append-seam}
-use borrow.Author.Tests.{le-leb, ltb-false}
-use Rattle.choice.specs.Choice.{if_then_else_}
+use lib.Seq.{sets-eq, take-append-seam}
+use borrow.Author.Tests.{le-leb, leb-true, leb-false}
 use Rattle.sizes.specs.Sizes.{sizesInRange}
 use Rattle.sizes.specs.declared.Sizes.{Sizes}
 use Rattle.sets.specs.Scans.{only, holds}
-use Rattle.numbers.specs.Coding.{refusedWrite, leaves}
-use Rattle.numbers.specs.declared.Written.the-variants as written
-use Rattle.forms.specs.Forms.{Outcome, got, refused}
-use Rattle.schedule.specs.Schedule.{headerOf, readSchedule}
+use Rattle.numbers.proofs.Puts.{no-room, wrote, put-number}
+use Rattle.forms.specs.Forms.{FormRead, readAs, unread}
+use Rattle.schedule.specs.Schedule.{readSchedule}
+use Rattle.schedule.specs.declared.Header.{Header}
 use Rattle.text.specs.Words.{bytes}
 use Rattle.text.specs.Digits.{decimalOf, hexOf}
 use Rattle.model.specs.Records.{State, fresh, learnerOf}
@@ -32,7 +31,7 @@ use Rattle.model.proofs.Computing.{theSets, theStep, settledRun, run-settled}
 use Rattle.model.proofs.Examples.{seven-answers}
 use Rattle.machine.specs.Calls.{eventsIn, hasNumbers, logged, runNo, afterRun, logAfterRun, wholeRunNo, logAfterWholeRun}
 use Rattle.printer.specs.Log.{answersIn}
-use Rattle.printer.specs.Text.{lines, linesFrom, okCount, refusedCount, endWith, endLine, runText, putAnswer, afterPut}
+use Rattle.printer.specs.Text.{lines, linesFrom, okCount, refusedCount, endWith, endLine, runText, textWritten, afterText}
 use Rattle.printer.specs.Printing.{textOfRead, text}
 use Rattle.printer.proofs.ReadBack.{Small, read-back}
 use Rattle.printer.proofs.Example.{example-text}
@@ -52,8 +51,8 @@ run-kept z s ns n log = (refl, ((refl, (refl, (refl, refl))), refl))
 pub whole-run-kept : WholeRunKept (λ z ns n log. record { no = wholeRunNo z ns n log; log = logAfterWholeRun z ns n log })
 whole-run-kept z ns n log = (refl, refl)
 
-pub print-kept : PrintKept (λ buffer bytes. record { answer = putAnswer (text bytes) buffer; buffer = afterPut (text bytes) buffer })
-print-kept buffer bytes = (refl, refl)
+pub print-kept : PrintKept (λ buffer bytes. record { answer = textWritten (text bytes) buffer; buffer = afterText (text bytes) buffer })
+print-kept buffer bytes = (refl, refl, put-number 0 (text bytes) buffer 0)
 
 -- ---- programs of the step, called with one event after the other
 
@@ -120,20 +119,21 @@ module _ (log : List ℕ) (h : 14 ≤ length log) where
 
 -- ---- printed texts
 
-shown-by : (t buffer : List ℕ) (b : Bool) → ltb (length buffer) (length t) ≡ b
-    → (shown (if b then refusedWrite 8 else written.Next (length t)) (leaves (if b then refusedWrite 8 else written.Next (length t)) (sets buffer 0 t) buffer) ≡ [])
-    ⊎ (shown (if b then refusedWrite 8 else written.Next (length t)) (leaves (if b then refusedWrite 8 else written.Next (length t)) (sets buffer 0 t) buffer) ≡ t)
-shown-by t buffer true h = inl refl
-shown-by t buffer false h =
-    inr (ap (take (length t)) (sets-eq t buffer 0 (omega (arith, ltb-false (length buffer) (length t) h))) ∙ take-append-seam t (drop (0 + length t) buffer))
+shown-by : (t buffer : List ℕ) (b : Bool) → leb (0 + length t) (length buffer) ≡ b → (shown (textWritten t buffer) (afterText t buffer) ≡ []) ⊎ (shown (textWritten t buffer) (afterText t buffer) ≡ t)
+shown-by t buffer false h = inl (rw (← no-room 0 t buffer 0 refl (leb-false (0 + length t) (length buffer) h) .0))
+shown-by t buffer true h =
+    let l = leb-true (0 + length t) (length buffer) h in
+    let w = wrote 0 t buffer 0 refl l in
+    let n : 0 + length t ≡ length t = omega arith in
+    let rest = drop (0 + length t) buffer in
+    inr (rw (← w .0, ← w .1) (ap (take (0 + length t)) (sets-eq t buffer 0 l) ∙ ap (λ (k : ℕ). take k (t ++ rest)) n ∙ take-append-seam t rest))
 
 -- nothing, or the text of the bytes
 module _ (f : PrintProgram) (k : PrintKept f) (buffer : List ℕ) where
   text-shown : (bytes : List ℕ) → (printed (f buffer bytes) ≡ []) ⊎ (printed (f buffer bytes) ≡ text bytes)
-  unfolding putAnswer afterPut
   text-shown bytes =
       rw (k buffer bytes .0, k buffer bytes .1)
-      (shown-by (text bytes) buffer (ltb (length buffer) (length (text bytes))) refl)
+      (shown-by (text bytes) buffer (leb (0 + length (text bytes)) (length buffer)) refl)
 
   -- a text of a run is the whole text
   run-shown : (bytes : List ℕ) (ws : List Answer) (a b c : ℕ) → printed (f buffer bytes) ≡ linesFrom 1 ws ++ endWith a b c → text bytes ≡ linesFrom 1 ws ++ endWith a b c
@@ -143,12 +143,12 @@ module _ (f : PrintProgram) (k : PrintKept f) (buffer : List ℕ) where
   ]
 
 -- its last line is that of its lines
-counts-true : (o : Outcome) (ws : List Answer) (a b c : ℕ) → textOfRead o ≡ linesFrom 1 ws ++ endWith a b c → endWith a b c ≡ endLine ws
+counts-true : (o : FormRead Header) (ws : List Answer) (a b c : ℕ) → textOfRead o ≡ linesFrom 1 ws ++ endWith a b c → endWith a b c ≡ endLine ws
 unfolding textOfRead
-counts-true (got vs n) ws a b c e =
-    let z = headerOf vs .sizes in
-    one-text z (all-named z (fresh z) (eventsIn (drop 6 vs) (headerOf vs .events))) ws a b c (sym e) .1
-counts-true (refused r) ws a b c e = absurd (refusal-no-run (r .no) ws a b c e)
+counts-true (readAs h fields) ws a b c e =
+    let z = h .sizes in
+    one-text z (all-named z (fresh z) (eventsIn fields (h .events))) ws a b c (sym e) .1
+counts-true (unread r) ws a b c e = absurd (refusal-no-run (r .no) ws a b c e)
 
 example-says : text example ≡ runText seven
 unfolding theSets lines linesFrom okCount refusedCount runText decimalOf hexOf bytes

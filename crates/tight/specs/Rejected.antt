@@ -4,6 +4,7 @@ use mathlib.Core.List.{List, [], _∷_, _++_}
 use Prim.Native.Nat.{ℕ, _≤_}
 use lib.ListN.{length, take, drop}
 use Rattle.sizes.specs.declared.Sizes.{Sizes}
+use Rattle.numbers.specs.Coding.{writtenNo}
 use Rattle.numbers.specs.declared.Written.{Written}
 use Rattle.numbers.specs.declared.Written.the-variants as written
 use Rattle.model.specs.Records.{State, fresh}
@@ -12,7 +13,7 @@ use Rattle.model.specs.declared.Event.{Event}
 use Rattle.model.specs.declared.Answer.{Answer}
 use Rattle.machine.specs.Calls.{eventsIn, StepCall, RunCall, WholeRunCall}
 use Rattle.printer.specs.Log.{answersIn}
-use Rattle.printer.specs.Text.{linesFrom, okCount, refusedCount, endWith, endLine, putAnswer, afterPut}
+use Rattle.printer.specs.Text.{linesFrom, okCount, refusedCount, endWith, endLine, textWrittenNo, textWritten, afterText}
 use Rattle.printer.specs.Printing.{text}
 
 -- ---- programs: what a call answers and leaves, of what it is given
@@ -60,7 +61,9 @@ WholeRunKept f = (z : Sizes) (ns : List ℕ) (n : ℕ) (log : List ℕ) → Whol
 
 abbrev pub PrintKept : PrintProgram → Type 0
 PrintKept f = (buffer bytes : List ℕ)
-    → (f buffer bytes .answer ≡ putAnswer (text bytes) buffer) × (f buffer bytes .buffer ≡ afterPut (text bytes) buffer)
+    → (f buffer bytes .answer ≡ textWritten (text bytes) buffer)
+    × (f buffer bytes .buffer ≡ afterText (text bytes) buffer)
+    × (writtenNo (f buffer bytes .answer) ≡ textWrittenNo (text bytes) buffer)
 
 -- ---- document 01's example
 

@@ -15,7 +15,7 @@ STRUCTS = RECORDS + [
     ('ProposerId', 'Pi', 'Rattle.sets.proofs.ProposerId', 'Rattle.sets.specs.declared.ProposerId'),
     ('Scans', 'Sc', 'Rattle.sets.proofs.scans.Scans', 'Rattle.sets.specs.declared.scans.Scans'),
     ('Heard', 'He', 'Rattle.model.proofs.Heard', 'Rattle.model.specs.declared.Heard'),
-    ('Ear', 'Ea', CRATE + '.lent.Ear', 'Rattle.machine.specs.declared.lent.Ear'),
+    ('Ear', 'Ea', 'Rattle.decisions.proofs.arms.Ear', 'Rattle.decisions.specs.declared.arms.Ear'),
 ]
 
 USES = '''use lib.Dec.{ltb}

@@ -5,7 +5,7 @@ Run it at the project's root: python3 tools/machine_walks/ids.py
 from walk import CRATE, RECORDS, Function, Walk, shared_slice_of, slice_of, value
 
 STRUCTS = RECORDS + [('%sId' % t, t[:2] + 'Id', 'Rattle.sets.proofs.%sId' % t, 'Rattle.sets.specs.declared.%sId' % t) for t in ('Proposer', 'Acceptor', 'Learner')] + [
-    ('Ear', 'Ea', CRATE + '.lent.Ear', 'Rattle.machine.specs.declared.lent.Ear')]
+    ('Ear', 'Ea', 'Rattle.decisions.proofs.arms.Ear', 'Rattle.decisions.specs.declared.arms.Ear')]
 COMMENT = '''-- `%s` meets its contract: a walk of its MIR. The number becomes an index, and the slice goes on with it. tools/machine_walks/ids.py writes this file.
 -- Assumes nothing.
 '''

@@ -7,12 +7,12 @@ from walk import CRATE, RECORDS, Function, Walk, slice_of, value
 STRUCTS = RECORDS + [
     ('Event', 'Ev', 'Rattle.model.proofs.Event', 'Rattle.model.specs.declared.Event'),
     ('Send', 'Sd', 'Rattle.decisions.proofs.sending.Send', 'Rattle.decisions.specs.declared.sending.Send'),
-    ('Decision', 'Dn', CRATE + '.step.Decision', 'Rattle.machine.specs.declared.step.Decision'),
+    ('Decision', 'Dn', 'Rattle.decisions.proofs.arms.Decision', 'Rattle.decisions.specs.declared.arms.Decision'),
     ('ProposerId', 'Pi', 'Rattle.sets.proofs.ProposerId', 'Rattle.sets.specs.declared.ProposerId'),
     ('AcceptorId', 'Ai', 'Rattle.sets.proofs.AcceptorId', 'Rattle.sets.specs.declared.AcceptorId'),
     ('LearnerId', 'Ll', 'Rattle.sets.proofs.LearnerId', 'Rattle.sets.specs.declared.LearnerId'),
-    ('Ear', 'Ea', CRATE + '.lent.Ear', 'Rattle.machine.specs.declared.lent.Ear'),
-    ('Listened', 'Li', CRATE + '.step.Listened', 'Rattle.machine.specs.declared.step.Listened'),
+    ('Ear', 'Ea', 'Rattle.decisions.proofs.arms.Ear', 'Rattle.decisions.specs.declared.arms.Ear'),
+    ('Listened', 'Li', 'Rattle.decisions.proofs.arms.Listened', 'Rattle.decisions.specs.declared.arms.Listened'),
     ('Answer', 'An', 'Rattle.model.proofs.Answer', 'Rattle.model.specs.declared.Answer'),
 ]
 
@@ -23,6 +23,10 @@ def step(g):
 
 def lent(g):
     return ('lent', g)
+
+
+def arms(g):
+    return ('decisions', 'arms', g)
 
 
 def arm(name, role, locals, temporaries, definitions, facts, after, says, uses, result='r₀'):
@@ -54,10 +58,12 @@ f = arm('learner', ('Learner', 'ls'),
     uses=('''use lib.ListN.{getD}
 use Rattle.model.specs.Records.{freshLearner}
 use Rattle.decisions.specs.Change.{slotAfter}
+use Rattle.decisions.specs.Arms.{listenOf, heardIn}
 use Rattle.machine.specs.Stepping.{within, partyOf}
-use Rattle.machine.specs.Roles.{earOf, putEar, listenOf, OfLearner}
+use Rattle.machine.specs.Roles.{earOf, putEar, OfLearner}
 ''', '''use Rattle.sizes.proofs.SizeLaws.{bounds}
 use Rattle.machine.proofs.Readiness.{within-in as party-there}
+use Rattle.decisions.proofs.Deciding.{heard-in}
 use Rattle.machine.proofs.Ears.{ear-says, ear-left, ear-slots}
 '''))
 w = Walk(f)
@@ -66,7 +72,7 @@ w.call(step('learner_at'), [1, 7], 8, 'LearnerId', 'lid', '(fit .1 .1 .0)')
 w.call(step('proposer_of'), [6], 9, 'ProposerId', '(m .proposer)')
 w.cut()
 w.shared(lent('load_ear'), 0, 14, 15, [8, 9], 10, 'Ear', 'x', 'in-l')
-w.call(step('listen'), [1, 4, 6, 10], 11, 'Listened', 'y', '(fit .0)')
+w.call(arms('listen'), [1, 4, 6, 10], 11, 'Listened', 'y', said=('heardIn z e m x', 'heard-in z e m x (fit .1 .1 .0) (fit .0)'))
 w.cut()
 w.call(step('ear_in'), [11], 12, 'Ear', '(y .ear)')
 w.lent(lent('store_ear'), 0, 17, 18, [8, 9, 12], 16, 'ls′', 'in-l')
@@ -84,12 +90,14 @@ use Rattle.model.specs.Table.{post}
 use Rattle.decisions.specs.Sending.{itemsOf, lacking}
 use Rattle.decisions.specs.Change.{slotAfter}
 use Rattle.machine.specs.Slots.{Ready}
-use Rattle.machine.specs.Stepping.{within, partyOf, decideOf, finishOf, replyOf}
-use Rattle.machine.specs.Roles.{proposerAt, acceptorAt, decisionAt, finishedAt, stepAt, armOf, %s}
+use Rattle.decisions.specs.Arms.{armOf, decideOf, finishOf, decidedIn, toldIn, saidOf}
+use Rattle.machine.specs.Stepping.{within, partyOf}
+use Rattle.machine.specs.Roles.{proposerAt, acceptorAt, decisionAt, finishedAt, stepAt, %s}
 use Rattle.model.specs.Records.{freshProposer, freshAcceptor, freshLearner}
 '''
 LAWS = '''use Rattle.sizes.proofs.SizeLaws.{bounds}
 use Rattle.machine.proofs.Readiness.{within-in as party-there}
+use Rattle.decisions.proofs.Deciding.{decided-in, told-in}
 use Rattle.machine.proofs.Roles.{not-of, quiet-finished}
 use Rattle.machine.proofs.Arms.{%s}
 '''
@@ -110,16 +118,16 @@ f = arm('told', ('Proposer', 'ps'),
     locals=['u64', 'ProposerId', 'Proposer', 'Decision', 'Proposer', 'Message', ('Proposer', 'imm'), 'unit', ('Proposer', 'mut'), ('Message', 'mut')],
     temporaries=13,
     definitions=[('i', 'ℕ', 'partyOf e m'), ('pi', 'ℕ', 'within i (z .proposers)'), ('pid', 'ProposerId', 'record { 0 = pi }'), ('q', 'Proposer', 'getD ps pi freshProposer'), ('f', 'Decision', 'finishOf (decideOf z e m q freshAcceptor freshLearner) 0 q freshAcceptor'),
-        ('m′', 'Message', 'slotAfter (f .change .frees) m'), ('ps′', 'List Proposer', 'set ps pi (f .change .proposer)'), ('t′', 'List Message', 'set t k m′'), ('r₀', 'Answer', 'replyOf z e f m freshLearner')],
+        ('m′', 'Message', 'slotAfter (f .change .frees) m'), ('ps′', 'List Proposer', 'set ps pi (f .change .proposer)'), ('t′', 'List Message', 'set t k m′'), ('r₀', 'Answer', 'saidOf e f')],
     facts=[('in-p', 'pi < length ps', 'party-there i (z .proposers) (length ps) (fit .1 .0) (bounds z (fit .1 .1 .0) .some-proposers)'), ('in-k', 'k < length t', 'fit .1 .1 .1 .0')],
-    after=['ps′', 't′'], says='(told-says z e k m ps t (fit .0), (told-left z e k m ps t (fit .0), told-slots z e k m ps t (fit .0)))',
-    uses=(OTHERS % 'OfTold', LAWS % 'told-says, told-left, told-slots, told-quiet'))
+    after=['ps′', 't′'], says='(said-as z e f m freshLearner (told-quiet z e k m ps t (fit .0)) ∙ told-says z e k m ps t (fit .0), (told-left z e k m ps t (fit .0), told-slots z e k m ps t (fit .0)))',
+    uses=(OTHERS % 'OfTold', LAWS % 'told-says, told-left, told-slots, told-quiet, said-as'))
 w = Walk(f)
 w.call(step('party_of'), [4, 6], 7, 'u64', 'i')
 w.call(step('proposer_at'), [1, 7], 8, 'ProposerId', 'pid', '(fit .1 .1 .0)')
 w.cut()
 w.shared(lent('load_proposer'), 0, 13, 14, [8], 9, 'Proposer', 'q', 'in-p')
-w.call(step('tell'), [1, 4, 6, 9], 10, 'Decision', 'f', '(fit .0)')
+w.call(arms('tell'), [1, 4, 6, 9], 10, 'Decision', 'f', said=('toldIn z e m q', 'told-in z e m q (fit .1 .1 .0) (fit .0)'))
 w.cut()
 w.call(step('proposer_in'), [10], 11, 'Proposer', '(f .change .proposer)')
 w.lent(lent('store_proposer'), 0, 16, 17, [8, 11], 15, 'ps′', 'in-p')
@@ -127,30 +135,30 @@ w.cut()
 w.call(step('slot_in'), [10, 6], 12, 'Message', 'm′')
 w.lent(lent('store_message'), 1, 18, 19, [5, 12], 15, 't′', 'in-k')
 w.cut()
-w.call(step('reply'), [1, 4, 10, 6], 0, 'Answer', 'r₀', '(told-quiet z e k m ps t (fit .0))')
+w.call(arms('reply'), [4, 10], 0, 'Answer', 'r₀')
 w.write()
 
 
 # an acceptor, an acting proposer
 
-def party(name, number, struct, short, slice, lists, at):
+def party(name, number, struct, short, slice, lists, at, records):
     """A party that decides and sends: its record in slice, found at the place p."""
     own = struct.lower()
     f = arm(name, (struct, slice),
         locals=['u64', struct + 'Id', struct, 'Decision', 'u8', 'u8', 'Decision', struct, 'Message', 'Send', (struct, 'imm'), ('Message', 'imm'), 'unit', (struct, 'mut'), ('Message', 'mut'), ('Message', 'mut')],
         temporaries=17,
         definitions=[('i', 'ℕ', 'partyOf e m'), ('p', 'ℕ', 'within i (z .%ss)' % own), ('id', struct + 'Id', 'record { 0 = p }'), (short, struct, '%s z e k m %s t' % (at, lists))] + finished(lists) + left(lists)
-        + [('own′', 'List ' + struct, 'set %s p (f .change .%s)' % (slice, own)), ('t′', 'List Message', 'post (itemsOf (f .change .send)) t₁'), ('r₀', 'Answer', 'replyOf z e f m freshLearner')],
+        + [('own′', 'List ' + struct, 'set %s p (f .change .%s)' % (slice, own)), ('t′', 'List Message', 'post (itemsOf (f .change .send)) t₁'), ('r₀', 'Answer', 'saidOf e f')],
         facts=[('in-p', 'p < length ' + slice, 'party-there i (z .%ss) (length %s) (fit .1 .0) (bounds z (fit .1 .1 .0) .some-%ss)' % (own, slice, own)), ('in-k', 'k < length t', 'fit .1 .1 .1 .0'),
             ('ready', 'Ready (f .change .send) t₁', 'ready-at z e k m %s t in-k (fit .1 .1 .1 .1)' % lists)],
-        after=['own′', 't′'], says='(refl, (refl, refl))',
-        uses=(OTHERS % ('Of' + name.capitalize()), LAWS % 'ready-at'))
+        after=['own′', 't′'], says='(said-as z e f m freshLearner (quiet-finished z e k m %s t (not-of %d 3 (armOf e m) (fit .0) tt) .0), (refl, refl))' % (lists, number),
+        uses=(OTHERS % ('Of' + name.capitalize()), LAWS % 'ready-at, said-as'))
     w = Walk(f)
     w.call(step('party_of'), [4, 6], 7, 'u64', 'i')
     w.call(step(own + '_at'), [1, 7], 8, struct + 'Id', 'id', '(fit .1 .1 .0)')
     w.cut()
     w.shared(lent('load_' + own), 0, 17, 18, [8], 9, struct, short, 'in-p')
-    w.call(step('decide_' + own), [1, 4, 6, 9], 10, 'Decision', 'd', '(fit .1 .1 .0, fit .0)')
+    w.call(arms('decide_' + own), [1, 4, 6, 9], 10, 'Decision', 'd', said=('decidedIn %d z e m %s' % (number, records), 'decided-in %d z e m %s (fit .1 .1 .0) (fit .0)' % (number, records)))
     w.cut()
     w.call(step('need_in'), [10], 11, 'u8', '(d .need)')
     w.shared(lent('room'), 1, 19, 20, [11], 12, 'u8', '(lacking (d .need) t)')
@@ -165,24 +173,24 @@ def party(name, number, struct, short, slice, lists, at):
     w.call(step('send_in'), [13], 16, 'Send', '(f .change .send)')
     w.lent(lent('send_all'), 1, 26, 27, [16], 21, 't′', 'ready')
     w.cut()
-    w.call(step('reply'), [1, 4, 13, 6], 0, 'Answer', 'r₀', '(quiet-finished z e k m %s t (not-of %d 3 (armOf e m) (fit .0) tt) .0)' % (lists, number))
+    w.call(arms('reply'), [4, 13], 0, 'Answer', 'r₀')
     w.write()
 
 
-party('acceptor', 2, 'Acceptor', 'c', 'acs', '[] acs []', 'acceptorAt')
-party('proposer', 1, 'Proposer', 'q', 'ps', 'ps [] []', 'proposerAt')
+party('acceptor', 2, 'Acceptor', 'c', 'acs', '[] acs []', 'acceptorAt', 'freshProposer c')
+party('proposer', 1, 'Proposer', 'q', 'ps', 'ps [] []', 'proposerAt', 'q freshAcceptor')
 
 # the table alone
 
 f = arm('table', None,
     locals=['Decision', 'u8', 'u8', 'Decision', 'Message', 'Send', ('Message', 'imm'), 'unit', ('Message', 'mut'), ('Message', 'mut')],
     temporaries=12,
-    definitions=finished('[] [] []') + left('[] [] []') + [('t′', 'List Message', 'post (itemsOf (f .change .send)) t₁'), ('r₀', 'Answer', 'replyOf z e f m freshLearner')],
+    definitions=finished('[] [] []') + left('[] [] []') + [('t′', 'List Message', 'post (itemsOf (f .change .send)) t₁'), ('r₀', 'Answer', 'saidOf e f')],
     facts=[('in-k', 'k < length t', 'fit .1 .1 .0'), ('ready', 'Ready (f .change .send) t₁', 'ready-at z e k m [] [] [] t in-k (fit .1 .1 .1)')],
-    after=['t′'], says='(refl, refl)',
-    uses=(OTHERS % 'OfTable', LAWS % 'ready-at'))
+    after=['t′'], says='(said-as z e f m freshLearner (quiet-finished z e k m [] [] [] t (not-of 0 3 (armOf e m) (fit .0) tt) .0), refl)',
+    uses=(OTHERS % 'OfTable', LAWS % 'ready-at, said-as'))
 w = Walk(f)
-w.call(step('decide_table'), [1, 3, 5], 6, 'Decision', 'd', '(fit .0)')
+w.call(arms('decide_table'), [1, 3, 5], 6, 'Decision', 'd', said=('decidedIn 0 z e m freshProposer freshAcceptor', 'decided-in 0 z e m freshProposer freshAcceptor (fit .1 .0) (fit .0)'))
 w.call(step('need_in'), [6], 7, 'u8', '(d .need)')
 w.cut()
 w.shared(lent('room'), 0, 12, 13, [7], 8, 'u8', '(lacking (d .need) t)')
@@ -194,5 +202,5 @@ w.cut()
 w.call(step('send_in'), [9], 11, 'Send', '(f .change .send)')
 w.lent(lent('send_all'), 0, 17, 18, [11], 14, 't′', 'ready')
 w.cut()
-w.call(step('reply'), [1, 3, 9, 5], 0, 'Answer', 'r₀', '(quiet-finished z e k m [] [] [] t (not-of 0 3 (armOf e m) (fit .0) tt) .0)')
+w.call(arms('reply'), [3, 9], 0, 'Answer', 'r₀')
 w.write()

@@ -93,7 +93,8 @@ f = Function(
         ('byLearner', 'Left', at('[] [] ls')), ('byProposer', 'Left', at('ps [] []')), ('byAcceptor', 'Left', at('[] acs []')), ('byTable', 'Left', at('[] [] []'))],
     facts=[('in-k', 'k < length t', 'slot-there z ps acs ls t fit (e .a)')],
     uses=('''use Rattle.machine.specs.Stepping.{within, theMessage, Left, stepOf, Fits}
-use Rattle.machine.specs.Roles.{armOf, stepAt}
+use Rattle.machine.specs.Roles.{stepAt}
+use Rattle.decisions.specs.Arms.{armOf}
 ''', '''use Rattle.machine.proofs.Readiness.{slot-there}
 use Rattle.machine.proofs.Roles.{leaves, by-learner, by-told, by-acceptor, by-proposer, by-table, table-left}
 '''))
@@ -108,7 +109,7 @@ eight = 'z e k m ps acs ls t'
 w = Dispatcher(f)
 w.call(step('slot_at'), [1, 6], 7, 'usize', 'k')
 w.shared(('lent', 'load_message'), 3, 10, 11, [7], 8, 'Message', 'm', 'in-k')
-w.call(step('arm_of'), [6, 8], 9, 'u8', 'n')
+w.call(('decisions', 'arms', 'arm_of'), [6, 8], 9, 'u8', 'n')
 w.start_arms(9, 12)
 w.arm(3, [(2, 13), (3, 15)], step('step_learner'), [1, 14, 16, 6, 7, 8], ['(byLearner .answer)', '(byLearner .learners)', '(byLearner .slots)'], '(holds, (fit .1 .1 .1 .0, %s))' % there,
       '(leaves (byLearner .answer) ps acs (byLearner .learners) (byLearner .slots)) (by-learner %s holds)' % eight)

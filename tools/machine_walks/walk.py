@@ -341,13 +341,14 @@ class Walk:
         self.sets(d, self.value[x])
         self.known[d] = (t, v, g)
 
-    def call(self, f, args, d, t, result, need=None):
-        """d = f(args), by value."""
+    def call(self, f, args, d, t, result, need=None, said=None):
+        """d = f(args), by value. `said`: what the function ensures that the result is, where that is another expression, and that they are the same."""
         n, g, a = self.cite(f), 'g%d' % d, [self.known[x] for x in args]
         self.say('calls-value ! fm ({0}.signature .params) {1} ({0}.ended .kept) ({0}.clauses 𝓤 H A mem run) known-{0} {2} {3} {4} {5}'.format(
             n, self.f.row(t), tuple_of([self.f.vals(x[0]) for x in a]), tuple_of([self.f.makes(x[0]) for x in a]), self.f.val(t), self.f.tells(t)))
-        self.say('%s %s tt %s %s (λ r e′. id⊢ 𝓤 (fact 𝓤 (r ≡ %s))) %s (λ %s.' % (
-            tuple_of([x[1] for x in a]), tuple_of([x[2] for x in a]), '(factI 𝓤 _ (emp 𝓤) %s)' % need if need else '(id⊢ 𝓤 (emp 𝓤))', result, result, self.operands(args, 1), g))
+        ensured = 'fact-mono 𝓤 (r ≡ {0}) (r ≡ {1}) (λ p. p ∙ {2})'.format(said[0], result, said[1]) if said else 'id⊢ 𝓤 (fact 𝓤 (r ≡ %s))' % result
+        self.say('%s %s tt %s %s (λ r e′. %s) %s (λ %s.' % (
+            tuple_of([x[1] for x in a]), tuple_of([x[2] for x in a]), '(factI 𝓤 _ (emp 𝓤) %s)' % need if need else '(id⊢ 𝓤 (emp 𝓤))', result, ensured, self.operands(args, 1), g))
         self.closes += 1
         self.lands(d, t, result, g)
 

@@ -1,8 +1,7 @@
--- Dispatch by a number: what is left where a number names no code, no role or no kind.
+-- Dispatch by a number: what is left where a number names no role or no kind.
 use mathlib.Core.Path.{_≡_, refl}
 use Prim.Native.Nat.{ℕ, zero, suc}
 use Rattle.model.specs.Records.{Kind, free, noKind, kindOf, noRole, roleOf}
-use Rattle.model.specs.Events.{noCode, codeOf}
 
 pub no-role : {N : Type 0} (n : ℕ) → ((N × (n ≡ 1 → ⊥)) × (n ≡ 2 → ⊥)) × (n ≡ 3 → ⊥) → roleOf n ≡ noRole
 no-role zero h = refl
@@ -20,15 +19,3 @@ other-kind f (suc (suc (suc zero))) e h = absurd (h .0 .0 .1 refl)
 other-kind f (suc (suc (suc (suc zero)))) e h = absurd (h .0 .1 refl)
 other-kind f (suc (suc (suc (suc (suc zero))))) e h = absurd (h .1 refl)
 other-kind f (suc (suc (suc (suc (suc (suc n)))))) e h = refl
-
-pub no-code : {N : Type 0} (n : ℕ) → (((((((N × (n ≡ 1 → ⊥)) × (n ≡ 2 → ⊥)) × (n ≡ 3 → ⊥)) × (n ≡ 4 → ⊥)) × (n ≡ 5 → ⊥)) × (n ≡ 6 → ⊥)) × (n ≡ 7 → ⊥)) × (n ≡ 8 → ⊥) → codeOf n ≡ noCode
-no-code zero h = refl
-no-code (suc zero) h = absurd (h .0 .0 .0 .0 .0 .0 .0 .1 refl)
-no-code (suc (suc zero)) h = absurd (h .0 .0 .0 .0 .0 .0 .1 refl)
-no-code (suc (suc (suc zero))) h = absurd (h .0 .0 .0 .0 .0 .1 refl)
-no-code (suc (suc (suc (suc zero)))) h = absurd (h .0 .0 .0 .0 .1 refl)
-no-code (suc (suc (suc (suc (suc zero))))) h = absurd (h .0 .0 .0 .1 refl)
-no-code (suc (suc (suc (suc (suc (suc zero)))))) h = absurd (h .0 .0 .1 refl)
-no-code (suc (suc (suc (suc (suc (suc (suc zero))))))) h = absurd (h .0 .1 refl)
-no-code (suc (suc (suc (suc (suc (suc (suc (suc zero)))))))) h = absurd (h .1 refl)
-no-code (suc (suc (suc (suc (suc (suc (suc (suc (suc n))))))))) h = refl

@@ -1,3 +1,4 @@
 pub mod Dispatch
 pub mod Items
 pub mod Sendable
+pub mod Deciding

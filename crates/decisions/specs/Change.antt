@@ -2,7 +2,6 @@
 use mathlib.Core.Bool.{Bool, true, false}
 use Prim.Native.Nat.{ℕ, _%_}
 use Rattle.choice.specs.Choice.{if_then_else_}
-use Rattle.sizes.specs.Sizes.{sizesInRange}
 use Rattle.sizes.specs.declared.Sizes.{Sizes}
 use Rattle.sets.specs.Scans.{only}
 use Rattle.sets.specs.declared.scans.Scans.{Scans}
@@ -104,10 +103,6 @@ changeOf z a b m q c refine = sends (afterRefine (z .acceptors) q) c (proposalsO
 changeOf z a b m q c decide = unchanged (afterDecide (z .acceptors) q) c
 changeOf z a b m q c crash = crashingOf q c (roleOf a)
 changeOf z a b m q c noCode = unchanged q c
-
--- nothing where the sizes are out of range
-unfoldable pub allowedChange : Sizes → ℕ → ℕ → Message → Proposer → Acceptor → Code → Change
-allowedChange z a b m q c code = if sizesInRange z then changeOf z a b m q c code else unchanged q c
 
 -- ---- the learner, the slot and the answer after a change
 

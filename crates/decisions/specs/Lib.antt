@@ -1,3 +1,4 @@
 pub mod Sending
 pub mod Change
 pub mod Refusals
+pub mod Arms

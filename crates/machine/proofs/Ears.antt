@@ -28,12 +28,14 @@ use Rattle.decisions.specs.Sending.{silence, itemsOf, lacking}
 use Rattle.decisions.specs.Change.{heardBy, stopping, deliveringOf, crashingOf, changeOf, learnerAfter, slotAfter, learnerAnswer, answerOf}
 use Rattle.decisions.specs.Refusals.{testNo}
 use Rattle.decisions.proofs.Items.{items-silence}
-use Rattle.machine.specs.declared.step.Decision.{Decision}
-use Rattle.machine.specs.Stepping.{within, partyOf, needOf, decideOf, refusedOf, finishOf, replyOf}
+use Rattle.decisions.specs.declared.arms.Decision.{Decision}
+use Rattle.machine.specs.Stepping.{within, partyOf, replyOf}
+use Rattle.decisions.specs.Arms.{needOf, decideOf, refusedOf, finishOf}
 use Rattle.machine.proofs.Readiness.{same}
-use Rattle.machine.specs.declared.lent.Ear.{Ear}
-use Rattle.machine.specs.declared.step.Listened.{Listened}
-use Rattle.machine.specs.Roles.{armOfKind, armOfRole, armAt, armOf, finishedAt, decisionAt, stepAt, earOf, putEar, earAt, hears, earSays, earNo, listenOf}
+use Rattle.decisions.specs.declared.arms.Ear.{Ear}
+use Rattle.decisions.specs.declared.arms.Listened.{Listened}
+use Rattle.machine.specs.Roles.{finishedAt, decisionAt, stepAt, earOf, putEar}
+use Rattle.decisions.specs.Arms.{armOfKind, armOfRole, armAt, armOf, earAt, hears, earSays, earNo, listenOf}
 
 -- ---- the two events of a learner
 

@@ -28,9 +28,9 @@ use Rattle.model.specs.declared.Heard.{Heard}
 use Rattle.model.proofs.Heard as He
 use Rattle.model.proofs.Heard.Laws as He′
 use Rattle.choice.specs.Choice.{if_then_else_}
-use Rattle.machine.specs.declared.lent.Ear.{Ear}
-use Rattle.machine.proofs.lent.Ear as Ea
-use Rattle.machine.proofs.lent.Ear.Laws as Ea′
+use Rattle.decisions.specs.declared.arms.Ear.{Ear}
+use Rattle.decisions.proofs.arms.Ear as Ea
+use Rattle.decisions.proofs.arms.Ear.Laws as Ea′
 use Rattle.machine.specs.Roles.{placeOf}
 use Rattle.machine.proofs.Readiness.{same}
 use lib.Seq.{set-out}

@@ -23,11 +23,9 @@ pub mod Testing
 pub mod WalkedLoops
 pub mod Unchanged
 pub mod Roles
-pub mod Deciding
 pub mod Ids
 pub mod Ears
 pub mod Arms
 pub mod Parts
 pub mod Heards
-pub mod Counting
 pub mod Replies

@@ -29,8 +29,9 @@ use Rattle.model.proofs.States.{length-post}
 use Rattle.model.proofs.InRange.{run-in-range}
 use Rattle.decisions.specs.Sending.{isTaken, itemsOf}
 use Rattle.decisions.specs.Change.{learnerAfter, slotAfter}
-use Rattle.machine.specs.declared.step.Decision.{Decision}
-use Rattle.machine.specs.Stepping.{within, partyOf, decideOf, finishOf, replyOf, Fits, Left, theMessage, stepOf}
+use Rattle.decisions.specs.declared.arms.Decision.{Decision}
+use Rattle.machine.specs.Stepping.{within, partyOf, replyOf, Fits, Left, theMessage, stepOf}
+use Rattle.decisions.specs.Arms.{decideOf, finishOf}
 use Rattle.machine.specs.Running.{noted, Ran, onward, ranTo, driven, Drives}
 use Rattle.machine.specs.Calls.{eventOf, eventsIn, logged, hasNumbers, wholeRunNo, logAfterWholeRun}
 use Rattle.machine.specs.Counting.{turnsOf}

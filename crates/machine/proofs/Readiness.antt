@@ -23,9 +23,10 @@ use Rattle.decisions.specs.Change.{unchanged, changeOf, slotAfter}
 use Rattle.decisions.specs.Refusals.{testNo}
 use Rattle.sizes.proofs.SizeLaws.{bounds}
 use Rattle.decisions.proofs.Sendable.{Sendable, silent, sendable}
-use Rattle.machine.specs.declared.step.Decision.{Decision}
+use Rattle.decisions.specs.declared.arms.Decision.{Decision}
 use Rattle.machine.specs.Slots.{Ready}
-use Rattle.machine.specs.Stepping.{within, needOf, decideOf, refusedOf, finishOf, Fits}
+use Rattle.machine.specs.Stepping.{within, Fits}
+use Rattle.decisions.specs.Arms.{needOf, decideOf, refusedOf, finishOf}
 
 -- ---- the records that an event finds are there
 

@@ -28,10 +28,12 @@ use Rattle.decisions.specs.Sending.{itemsOf, lacking}
 use Rattle.decisions.specs.Change.{unchanged, answeringOf, deliveringOf, crashingOf, receivingOf, changeOf, learnerAfter, slotAfter, answerOf}
 use Rattle.decisions.specs.Refusals.{aliveIn, slotNo, partyNo, testNo}
 use Rattle.choice.specs.Tests.{_unless_, _⨾_, refusal, ok}
-use Rattle.machine.specs.declared.step.Decision.{Decision}
-use Rattle.machine.specs.Stepping.{within, partyOf, needOf, decideOf, refusedOf, finishOf, replyOf, Left, theMessage, stepOf}
+use Rattle.decisions.specs.declared.arms.Decision.{Decision}
+use Rattle.machine.specs.Stepping.{within, partyOf, replyOf, Left, theMessage, stepOf}
+use Rattle.decisions.specs.Arms.{needOf, decideOf, refusedOf, finishOf}
 use Rattle.machine.proofs.Readiness.{same}
-use Rattle.machine.specs.Roles.{armOfKind, armOfRole, armAt, armOf, proposerAt, acceptorAt, learnerAt, decisionAt, finishedAt, stepAt}
+use Rattle.machine.specs.Roles.{proposerAt, acceptorAt, learnerAt, decisionAt, finishedAt, stepAt}
+use Rattle.decisions.specs.Arms.{armOfKind, armOfRole, armAt, armOf}
 
 pub step-at : (z : Sizes) (e : Event) (ps : List Proposer) (acs : List Acceptor) (ls : List Learner) (t : List Message) → stepOf z e ps acs ls t ≡ stepAt z e (within (e .a) (z .slots)) (theMessage z e ps acs ls t) ps acs ls t
 step-at z e ps acs ls t = refl

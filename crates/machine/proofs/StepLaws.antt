@@ -30,8 +30,9 @@ use Rattle.decisions.specs.Refusals.{testNo}
 use Rattle.decisions.proofs.Sendable.{sendable}
 use Rattle.sizes.proofs.SizeLaws.{bounds}
 use Rattle.decisions.proofs.Items.{items-silence, items-count}
-use Rattle.machine.specs.declared.step.Decision.{Decision}
-use Rattle.machine.specs.Stepping.{within, partyOf, needOf, decideOf, refusedOf, finishOf, replyOf, Left, theMessage, theProposer, theAcceptor, theLearner, stepOf}
+use Rattle.decisions.specs.declared.arms.Decision.{Decision}
+use Rattle.machine.specs.Stepping.{within, partyOf, replyOf, Left, theMessage, theProposer, theAcceptor, theLearner, stepOf}
+use Rattle.decisions.specs.Arms.{needOf, decideOf, refusedOf, finishOf}
 use Rattle.machine.proofs.Readiness.{within-in, same, freed, need-none}
 use Rattle.machine.proofs.EventLaws.{At, Does, Law, event-law}
 

@@ -5,5 +5,4 @@ pub mod Counting
 pub mod Slots
 pub mod Stepping
 pub mod Roles
-pub mod Deciding
 pub mod Running

@@ -1,8 +1,8 @@
 -- One event on the records that a caller lends, as the code does it: fetch, decide, write back. Contracts of private functions.
 use mathlib.Core.Path.{_≡_}
-use mathlib.Core.Bool.{Bool, true}
+use mathlib.Core.Bool.{true}
 use mathlib.Core.List.{List}
-use Prim.Native.Nat.{ℕ, _-_, _≤_}
+use Prim.Native.Nat.{ℕ, _≤_}
 use lib.Dec.{eqb, ltb}
 use lib.ListN.{length, getD, set}
 use Rattle.choice.specs.Choice.{if_then_else_}
@@ -18,11 +18,10 @@ use Rattle.model.specs.declared.Message.{Message}
 use Rattle.model.specs.declared.Event.{Event}
 use Rattle.model.specs.declared.Answer.{Answer}
 use Rattle.model.specs.declared.Answer.the-variants.{Refused}
-use Rattle.decisions.specs.declared.decide.Change.{Change}
 use Rattle.decisions.specs.Sending.{itemsOf, lacking}
-use Rattle.decisions.specs.Change.{unchanged, changeOf, learnerAfter, slotAfter, answerOf}
-use Rattle.decisions.specs.Refusals.{testNo}
-use Rattle.machine.specs.declared.step.Decision.{Decision}
+use Rattle.decisions.specs.Change.{learnerAfter, slotAfter, answerOf}
+use Rattle.decisions.specs.Arms.{decideOf, finishOf}
+use Rattle.decisions.specs.declared.arms.Decision.{Decision}
 
 -- ---- which records an event finds
 
@@ -45,24 +44,7 @@ partyAt e m noCode = e .a
 abbrev pub partyOf : Event → Message → ℕ
 partyOf e m = partyAt e m (codeOf (e .code))
 
--- ---- what is decided
-
--- free slots that the event asks for: the slot that it frees is there for what it sends
-unfoldable pub needOf : ℕ → Bool → ℕ → ℕ
-needOf n frees count = if eqb n 0 then (if frees then count - 1 else count) else 0
-
-abbrev decided : Change → ℕ → Decision
-decided d n = record { no = n; need = needOf n (d .frees) (d .send .count); change = d }
-
-unfoldable pub decideOf : Sizes → Event → Message → Proposer → Acceptor → Learner → Decision
-decideOf z e m q c l = decided (changeOf z (e .a) (e .b) m q c (codeOf (e .code))) (testNo z (e .a) (e .b) m q (c .alive) (l .alive) (codeOf (e .code)))
-
-abbrev pub refusedOf : ℕ → Proposer → Acceptor → Decision
-refusedOf n q c = record { no = n; need = 0; change = unchanged q c }
-
--- 8 where slots are lacking
-unfoldable pub finishOf : Decision → ℕ → Proposer → Acceptor → Decision
-finishOf d left q c = if eqb (d .no) 0 then (if eqb left 0 then d else refusedOf 8 q c) else refusedOf (d .no) q c
+-- ---- what is answered
 
 unfoldable pub replyOf : Sizes → Event → Decision → Message → Learner → Answer
 replyOf z e f m l = if eqb (f .no) 0 then answerOf z (f .change .hears) (f .change .proposer .decided) (e .a) m l (codeOf (e .code)) else Refused (f .no)

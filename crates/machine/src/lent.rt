@@ -14,6 +14,7 @@ ghost use Rattle.machine.specs.Slots.{leftAfter, searching, lowestFrom, 
 use crate::sending::count_of;
 use crate::sending::item;
 use choice::both;
+use decisions::arms::Ear;
 use decisions::sending::Send;
 use model::Acceptor;
 use model::Heard;
@@ -25,13 +26,6 @@ use sets::LearnerId;
 use sets::ProposerId;
 use sets::scans::Scans;
 use sizes::Sizes;
-
-// What a learner has of itself and of one proposer.
-pub struct Ear {
-    pub alive: bool,
-    pub learnt: Scans,
-    pub heard: Heard,
-}
 
 // The place of a proposer among those that a learner has heard of; 0 of one past them.
 fn place_of(p: ProposerId) -> usize

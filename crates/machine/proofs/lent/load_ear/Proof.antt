@@ -51,9 +51,9 @@ use Rattle.sets.proofs.ProposerId.Laws as PrId′
 use Rattle.sets.specs.declared.LearnerId.{LearnerId}
 use Rattle.sets.proofs.LearnerId as LeId
 use Rattle.sets.proofs.LearnerId.Laws as LeId′
-use Rattle.machine.specs.declared.lent.Ear.{Ear}
-use Rattle.machine.proofs.lent.Ear as Ea
-use Rattle.machine.proofs.lent.Ear.Laws as Ea′
+use Rattle.decisions.specs.declared.arms.Ear.{Ear}
+use Rattle.decisions.proofs.arms.Ear as Ea
+use Rattle.decisions.proofs.arms.Ear.Laws as Ea′
 use Rattle.machine.proofs.lent.learner_index as learner-index
 use Rattle.machine.proofs.lent.learner_index.Symbol as learner-index-def
 use Rattle.machine.proofs.lent.learner_index.Symbol.{name as #learner-index}

@@ -39,7 +39,8 @@ use denote.Triple.Table.{entered, cited}
 use denote.Triple.Walked.{says, needs, Stays, stay-none, stay-slice, walkOf, goes-none, goes-slice, Walks, ends-at, walked, walk-meets}
 use denote.Exit.{yes}
 use Rattle.machine.specs.Stepping.{within, theMessage, Left, stepOf, Fits}
-use Rattle.machine.specs.Roles.{armOf, stepAt}
+use Rattle.machine.specs.Roles.{stepAt}
+use Rattle.decisions.specs.Arms.{armOf}
 use Rattle.machine.proofs.Frees.{full, bare, dies-apart, frees-all}
 use Rattle.machine.proofs.Relending.{Slice, listAt}
 use Rattle.machine.proofs.CallsByValue.{calls-value}
@@ -73,10 +74,10 @@ use Rattle.machine.proofs.lent.load_message as load-message
 use Rattle.machine.proofs.lent.load_message.Symbol as load-message-def
 use Rattle.machine.proofs.lent.load_message.Symbol.{name as #load-message}
 use Rattle.machine.proofs.lent.load_message.Met as load-message-thm
-use Rattle.machine.proofs.step.arm_of as arm-of
-use Rattle.machine.proofs.step.arm_of.Symbol as arm-of-def
-use Rattle.machine.proofs.step.arm_of.Symbol.{name as #arm-of}
-use Rattle.machine.proofs.step.arm_of.Met as arm-of-thm
+use Rattle.decisions.proofs.arms.arm_of as arms-arm-of
+use Rattle.decisions.proofs.arms.arm_of.Symbol as arms-arm-of-def
+use Rattle.decisions.proofs.arms.arm_of.Symbol.{name as #arms-arm-of}
+use Rattle.decisions.proofs.arms.arm_of.Met as arms-arm-of-thm
 use Rattle.machine.proofs.step.step_learner as step-learner
 use Rattle.machine.proofs.step.step_learner.Symbol as step-learner-def
 use Rattle.machine.proofs.step.step_learner.Symbol.{name as #step-learner}
@@ -135,8 +136,8 @@ module _ {M : Type 1} (𝓤 : URA M) (H : Heap 𝓤) (A : Atoms 𝓤) (mem : Mem
   abbrev Of-load-message : Contract 𝓤
   Of-load-message = tripleOf 𝓤 H A load-message.signature (load-message.spec 𝓤 H A mem run)
 
-  abbrev Of-arm-of : Contract 𝓤
-  Of-arm-of = tripleOf 𝓤 H A arm-of.signature (arm-of.spec 𝓤 H A mem run)
+  abbrev Of-arms-arm-of : Contract 𝓤
+  Of-arms-arm-of = tripleOf 𝓤 H A arms-arm-of.signature (arms-arm-of.spec 𝓤 H A mem run)
 
   abbrev Of-step-learner : Contract 𝓤
   Of-step-learner = tripleOf 𝓤 H A step-learner.signature (step-learner.spec 𝓤 H A mem run)
@@ -250,7 +251,7 @@ module _ {M : Type 1} (𝓤 : URA M) (H : Heap 𝓤) (A : Atoms 𝓤) (W : Given
       nothing ! $ owned ! Ev.the-row (Is Ev.the-row) makesEv e _ ge $ fjoin ! $ move ! (4 ∷ 0 ∷ []) $ fjoin ! $ move ! (3 ∷ 0 ∷ []) $ fjoin ! $ move ! (2 ∷ 0 ∷ []) $ fjoin ! $ move ! (1 ∷ 0 ∷ []) $ fjoin ! $
       owned ! Sz.the-row (Is Sz.the-row) makesSz z _ gz $ fjoin ! $ frame ! $ owned ! An.the-row (Is An.the-row) makesAn (r .answer) _ is $ done !
 
-  module _ (𝓣 : Tables 𝓤 H) (known-slot-at : Triple 𝓤 (𝓣 .C #slot-at) (Of-slot-at 𝓤 H A mem run)) (known-load-message : Triple 𝓤 (𝓣 .C #load-message) (Of-load-message 𝓤 H A mem run)) (known-arm-of : Triple 𝓤 (𝓣 .C #arm-of) (Of-arm-of 𝓤 H A mem run)) (known-step-learner : Triple 𝓤 (𝓣 .C #step-learner) (Of-step-learner 𝓤 H A mem run)) (known-step-told : Triple 𝓤 (𝓣 .C #step-told) (Of-step-told 𝓤 H A mem run)) (known-step-acceptor : Triple 𝓤 (𝓣 .C #step-acceptor) (Of-step-acceptor 𝓤 H A mem run)) (known-step-proposer : Triple 𝓤 (𝓣 .C #step-proposer) (Of-step-proposer 𝓤 H A mem run)) (known-step-table : Triple 𝓤 (𝓣 .C #step-table) (Of-step-table 𝓤 H A mem run)) where
+  module _ (𝓣 : Tables 𝓤 H) (known-slot-at : Triple 𝓤 (𝓣 .C #slot-at) (Of-slot-at 𝓤 H A mem run)) (known-load-message : Triple 𝓤 (𝓣 .C #load-message) (Of-load-message 𝓤 H A mem run)) (known-arms-arm-of : Triple 𝓤 (𝓣 .C #arms-arm-of) (Of-arms-arm-of 𝓤 H A mem run)) (known-step-learner : Triple 𝓤 (𝓣 .C #step-learner) (Of-step-learner 𝓤 H A mem run)) (known-step-told : Triple 𝓤 (𝓣 .C #step-told) (Of-step-told 𝓤 H A mem run)) (known-step-acceptor : Triple 𝓤 (𝓣 .C #step-acceptor) (Of-step-acceptor 𝓤 H A mem run)) (known-step-proposer : Triple 𝓤 (𝓣 .C #step-proposer) (Of-step-proposer 𝓤 H A mem run)) (known-step-table : Triple 𝓤 (𝓣 .C #step-table) (Of-step-table 𝓤 H A mem run)) where
     abbrev C : Calls 𝓤 H
     C = 𝓣 .C
 
@@ -386,7 +387,7 @@ module _ {M : Type 1} (𝓤 : URA M) (H : Heap 𝓤) (A : Atoms 𝓤) (W : Given
           calls-shared ! fm Ms.the-row (plain (λ _. usize) ∷ []) Ms.the-row (yes, tt) valMs (LL.tells Ms.the-type Ms′.the-laws) b₃ o₃ n₃ t refl (λ ν. (uint-vals w64, tt)) (λ ν. (uint-makes 𝓤 H A W w64, tt)) (λ ν. (k, tt)) (λ ν. (g7, tt))
           (load-message.clauses 𝓤 H A mem run) known-load-message m (λ ν δ. tt) (λ ν δ. factI 𝓤 _ (emp 𝓤) in-k) (λ ν δ r e′. id⊢ 𝓤 (fact 𝓤 (r ≡ m))) (λ ν δ. (and-then ! (reads ! (from ! (stop !)) (look ! 30 refl)) (and-then ! (reads ! (from ! (stop !)) (look ! 34 refl)) (no-more !)))) (λ g8.
           land ! (from ! (stop !)) (init ! 30 refl (typedMs m g8)) $
-          calls-value ! fm (arm-of.signature .params) u8 (arm-of.ended .kept) (arm-of.clauses 𝓤 H A mem run) known-arm-of (valsEv, (valsMs, tt)) (makesEv, (makesMs, tt)) (vint w8) (uint-tells w8)
+          calls-value ! fm (arms-arm-of.signature .params) u8 (arms-arm-of.ended .kept) (arms-arm-of.clauses 𝓤 H A mem run) known-arms-arm-of (valsEv, (valsMs, tt)) (makesEv, (makesMs, tt)) (vint w8) (uint-tells w8)
           (e, (m, tt)) (ge, (g8, tt)) tt (id⊢ 𝓤 (emp 𝓤)) n (λ r e′. id⊢ 𝓤 (fact 𝓤 (r ≡ n))) (and-then ! (reads ! (from ! (stop !)) (look ! 33 refl)) (and-then ! (reads ! (from ! (stop !)) (look ! 31 refl)) (no-more !))) (λ g9.
           land ! (from ! (stop !)) (init ! 29 refl (tt, record { fits = g9 .1 })) $
           forget ! 28 refl $
@@ -402,11 +403,11 @@ module _ {M : Type 1} (𝓤 : URA M) (H : Heap 𝓤) (A : Atoms 𝓤) (W : Given
         move ! (38 ∷ []) $ split ! $ move ! (1 ∷ []) $ split ! $ move ! (1 ∷ []) $ split ! $ move ! (1 ∷ []) $ split ! $
         keep ! (9 ∷ 4 ∷ 8 ∷ 3 ∷ 7 ∷ 2 ∷ 5 ∷ 0 ∷ 12 ∷ 13 ∷ 14 ∷ 15 ∷ 16 ∷ 17 ∷ 18 ∷ 19 ∷ 20 ∷ 21 ∷ 22 ∷ 23 ∷ 24 ∷ 25 ∷ 26 ∷ 27 ∷ 28 ∷ 29 ∷ 30 ∷ 31 ∷ 32 ∷ 33 ∷ 34 ∷ 35 ∷ 36 ∷ 37 ∷ 38 ∷ 39 ∷ 40 ∷ 41 ∷ 42 ∷ 11 ∷ []) $ part-1 l₀ l₁ l₂ l₃ l₄ l₅ l₆ l₇ l₈ l₉ l₁₀ l₁₁ l₁₂ l₁₃ l₁₄ l₁₅ l₁₆ l₁₇ l₁₈ l₁₉ l₂₀ l₂₁ l₂₂ l₂₃ l₂₄ l₂₅ l₂₆ l₂₇ l₂₈ l₂₉ l₃₀)))))))))))))))))))))))))))))))
 
-module _ {M : Type 1} (𝓤 : URA M) (H : Heap 𝓤) (A : Atoms 𝓤) (W : Given 𝓤 H A) (mem : Memory → SProp 𝓤) (run : Routine → Fun 𝓤) (𝓣 : Tables 𝓤 H) (known-slot-at : Triple 𝓤 (𝓣 .C #slot-at) (Of-slot-at 𝓤 H A mem run)) (known-load-message : Triple 𝓤 (𝓣 .C #load-message) (Of-load-message 𝓤 H A mem run)) (known-arm-of : Triple 𝓤 (𝓣 .C #arm-of) (Of-arm-of 𝓤 H A mem run)) (known-step-learner : Triple 𝓤 (𝓣 .C #step-learner) (Of-step-learner 𝓤 H A mem run)) (known-step-told : Triple 𝓤 (𝓣 .C #step-told) (Of-step-told 𝓤 H A mem run)) (known-step-acceptor : Triple 𝓤 (𝓣 .C #step-acceptor) (Of-step-acceptor 𝓤 H A mem run)) (known-step-proposer : Triple 𝓤 (𝓣 .C #step-proposer) (Of-step-proposer 𝓤 H A mem run)) (known-step-table : Triple 𝓤 (𝓣 .C #step-table) (Of-step-table 𝓤 H A mem run)) where
+module _ {M : Type 1} (𝓤 : URA M) (H : Heap 𝓤) (A : Atoms 𝓤) (W : Given 𝓤 H A) (mem : Memory → SProp 𝓤) (run : Routine → Fun 𝓤) (𝓣 : Tables 𝓤 H) (known-slot-at : Triple 𝓤 (𝓣 .C #slot-at) (Of-slot-at 𝓤 H A mem run)) (known-load-message : Triple 𝓤 (𝓣 .C #load-message) (Of-load-message 𝓤 H A mem run)) (known-arms-arm-of : Triple 𝓤 (𝓣 .C #arms-arm-of) (Of-arms-arm-of 𝓤 H A mem run)) (known-step-learner : Triple 𝓤 (𝓣 .C #step-learner) (Of-step-learner 𝓤 H A mem run)) (known-step-told : Triple 𝓤 (𝓣 .C #step-told) (Of-step-told 𝓤 H A mem run)) (known-step-acceptor : Triple 𝓤 (𝓣 .C #step-acceptor) (Of-step-acceptor 𝓤 H A mem run)) (known-step-proposer : Triple 𝓤 (𝓣 .C #step-proposer) (Of-step-proposer 𝓤 H A mem run)) (known-step-table : Triple 𝓤 (𝓣 .C #step-table) (Of-step-table 𝓤 H A mem run)) where
   f-walks : Walks 𝓤 H A this.ended stayed (WpFn 𝓤 H (𝓣 .C) (𝓣 .Λ) code.function) (this.clauses 𝓤 H A mem run)
   f-walks = walked 𝓤 H A this.ended stayed (this.clauses 𝓤 H A mem run) (WpFn 𝓤 H (𝓣 .C) (𝓣 .Λ) code.function) (λ κs. (valsSz, (slice-vals, (slice-vals, (slice-vals, (slice-vals, (valsEv, tt)))))))
       (λ κs. (LL.tells Sz.the-type Sz′.the-laws, (mut-slice-tells (named 0) (κs .0) Pr.the-row, (mut-slice-tells (named 1) (κs .1 .0) Ac.the-row, (mut-slice-tells (named 2) (κs .1 .1 .0) Le.the-row, (mut-slice-tells (named 3) (κs .1 .1 .1 .0) Ms.the-row, (LL.tells Ev.the-type Ev′.the-laws, tt)))))))
-      (λ κs qs bounds a g are. needs 𝓤 (Fits (a .0) (a .1 .0 .now) (a .1 .1 .0 .now) (a .1 .1 .1 .0 .now) (a .1 .1 .1 .1 .0 .now)) _ (λ fit. walk 𝓤 H A W mem run (κs .0) (qs .0) (a .1 .0 .ptr .0) (a .1 .0 .ptr .1) (a .1 .0 .name) (κs .1 .0) (qs .1 .0) (a .1 .1 .0 .ptr .0) (a .1 .1 .0 .ptr .1) (a .1 .1 .0 .name) (κs .1 .1 .0) (qs .1 .1 .0) (a .1 .1 .1 .0 .ptr .0) (a .1 .1 .1 .0 .ptr .1) (a .1 .1 .1 .0 .name) (κs .1 .1 .1 .0) (qs .1 .1 .1 .0) (a .1 .1 .1 .1 .0 .ptr .0) (a .1 .1 .1 .1 .0 .ptr .1) (a .1 .1 .1 .1 .0 .name) (a .0) (a .1 .0 .now) (a .1 .1 .0 .now) (a .1 .1 .1 .0 .now) (a .1 .1 .1 .1 .0 .now) (a .1 .1 .1 .1 .1 .0) (are .0) (are .1 .0 .0 .1) (are .1 .1 .0 .0 .1) (are .1 .1 .1 .0 .0 .1) (are .1 .1 .1 .1 .0 .0 .1) (are .1 .1 .1 .1 .1 .0) fit 𝓣 known-slot-at known-load-message known-arm-of known-step-learner known-step-told known-step-acceptor known-step-proposer known-step-table))
+      (λ κs qs bounds a g are. needs 𝓤 (Fits (a .0) (a .1 .0 .now) (a .1 .1 .0 .now) (a .1 .1 .1 .0 .now) (a .1 .1 .1 .1 .0 .now)) _ (λ fit. walk 𝓤 H A W mem run (κs .0) (qs .0) (a .1 .0 .ptr .0) (a .1 .0 .ptr .1) (a .1 .0 .name) (κs .1 .0) (qs .1 .0) (a .1 .1 .0 .ptr .0) (a .1 .1 .0 .ptr .1) (a .1 .1 .0 .name) (κs .1 .1 .0) (qs .1 .1 .0) (a .1 .1 .1 .0 .ptr .0) (a .1 .1 .1 .0 .ptr .1) (a .1 .1 .1 .0 .name) (κs .1 .1 .1 .0) (qs .1 .1 .1 .0) (a .1 .1 .1 .1 .0 .ptr .0) (a .1 .1 .1 .1 .0 .ptr .1) (a .1 .1 .1 .1 .0 .name) (a .0) (a .1 .0 .now) (a .1 .1 .0 .now) (a .1 .1 .1 .0 .now) (a .1 .1 .1 .1 .0 .now) (a .1 .1 .1 .1 .1 .0) (are .0) (are .1 .0 .0 .1) (are .1 .1 .0 .0 .1) (are .1 .1 .1 .0 .0 .1) (are .1 .1 .1 .1 .0 .0 .1) (are .1 .1 .1 .1 .1 .0) fit 𝓣 known-slot-at known-load-message known-arms-arm-of known-step-learner known-step-told known-step-acceptor known-step-proposer known-step-table))
 
   f-meets : Meets 𝓤 H A this.signature (WpFn 𝓤 H (𝓣 .C) (𝓣 .Λ) code.function) (this.spec 𝓤 H A mem run)
   f-meets = walk-meets 𝓤 H A this.ended stayed W (goes-none 𝓤 H A W 4 (λ _. Sz.the-row) yes (λ κs x f. refl), (goes-slice 𝓤 H A W 4 0 tt (plain (λ _. Pr.the-row)), (goes-slice 𝓤 H A W 4 1 tt (plain (λ _. Ac.the-row)), (goes-slice 𝓤 H A W 4 2 tt (plain (λ _. Le.the-row)), (goes-slice 𝓤 H A W 4 3 tt (plain (λ _. Ms.the-row)), (goes-none 𝓤 H A W 4 (λ _. Ev.the-row) yes (λ κs x f. refl), tt))))))
@@ -419,7 +420,7 @@ step-spec 𝓤 H 𝓜 𝓖 𝓡 =
     (f-meets 𝓤 H (𝓖 .A) (givenOf 𝓤 H 𝓜 𝓖) (𝓜 .mem) (𝓡 .run) (tablesOf 𝓤 H 𝓜 (tables 𝓤 H 𝓜 𝓡 code.env))
     (cited 𝓤 H (Of-slot-at 𝓤 H (𝓖 .A) (𝓜 .mem) (𝓡 .run)) 𝓜 𝓡 code.env #slot-at slot-at-def.routine code.calls-machine·step·slot-at (slot-at-thm.met 𝓤 H 𝓜 𝓖 𝓡))
     (cited 𝓤 H (Of-load-message 𝓤 H (𝓖 .A) (𝓜 .mem) (𝓡 .run)) 𝓜 𝓡 code.env #load-message load-message-def.routine code.calls-machine·lent·load-message (load-message-thm.met 𝓤 H 𝓜 𝓖 𝓡))
-    (cited 𝓤 H (Of-arm-of 𝓤 H (𝓖 .A) (𝓜 .mem) (𝓡 .run)) 𝓜 𝓡 code.env #arm-of arm-of-def.routine code.calls-machine·step·arm-of (arm-of-thm.met 𝓤 H 𝓜 𝓖 𝓡))
+    (cited 𝓤 H (Of-arms-arm-of 𝓤 H (𝓖 .A) (𝓜 .mem) (𝓡 .run)) 𝓜 𝓡 code.env #arms-arm-of arms-arm-of-def.routine code.calls-decisions·arms·arm-of (arms-arm-of-thm.met 𝓤 H 𝓜 𝓖 𝓡))
     (cited 𝓤 H (Of-step-learner 𝓤 H (𝓖 .A) (𝓜 .mem) (𝓡 .run)) 𝓜 𝓡 code.env #step-learner step-learner-def.routine code.calls-machine·step·step-learner (step-learner-thm.met 𝓤 H 𝓜 𝓖 𝓡))
     (cited 𝓤 H (Of-step-told 𝓤 H (𝓖 .A) (𝓜 .mem) (𝓡 .run)) 𝓜 𝓡 code.env #step-told step-told-def.routine code.calls-machine·step·step-told (step-told-thm.met 𝓤 H 𝓜 𝓖 𝓡))
     (cited 𝓤 H (Of-step-acceptor 𝓤 H (𝓖 .A) (𝓜 .mem) (𝓡 .run)) 𝓜 𝓡 code.env #step-acceptor step-acceptor-def.routine code.calls-machine·step·step-acceptor (step-acceptor-thm.met 𝓤 H 𝓜 𝓖 𝓡))

@@ -1,6 +1,6 @@
 -- `step_learner` meets its contract: a walk of its MIR. Each call is one step: by value, or on one of the slices, which is lent and comes back. There is no branch. tools/machine_walks/roles.py writes this file.
 -- Assumes nothing.
-use mathlib.Core.Path.{_≡_, refl}
+use mathlib.Core.Path.{_≡_, refl, _∙_}
 use Prim.Native.Nat.{ℕ, _<_}
 use mathlib.Core.List.{List, [], _∷_}
 use lib.Dec.{T as Holds}
@@ -40,14 +40,16 @@ use denote.Exit.{yes}
 use lib.ListN.{getD}
 use Rattle.model.specs.Records.{freshLearner}
 use Rattle.decisions.specs.Change.{slotAfter}
+use Rattle.decisions.specs.Arms.{listenOf, heardIn}
 use Rattle.machine.specs.Stepping.{within, partyOf}
-use Rattle.machine.specs.Roles.{earOf, putEar, listenOf, OfLearner}
+use Rattle.machine.specs.Roles.{earOf, putEar, OfLearner}
 use Rattle.machine.proofs.Frees.{full, bare, dies-apart, frees-all}
 use Rattle.machine.proofs.Relending.{Slice, listAt}
 use Rattle.machine.proofs.CallsByValue.{calls-value}
 use Rattle.machine.proofs.CallsLending.{calls-shared, calls-lent}
 use Rattle.sizes.proofs.SizeLaws.{bounds}
 use Rattle.machine.proofs.Readiness.{within-in as party-there}
+use Rattle.decisions.proofs.Deciding.{heard-in}
 use Rattle.machine.proofs.Ears.{ear-says, ear-left, ear-slots}
 use Rattle.model.specs.declared.Learner.{Learner}
 use Rattle.model.proofs.Learner as Le
@@ -66,12 +68,12 @@ use Rattle.sets.proofs.ProposerId.Laws as Pi′
 use Rattle.sets.specs.declared.LearnerId.{LearnerId}
 use Rattle.sets.proofs.LearnerId as Ll
 use Rattle.sets.proofs.LearnerId.Laws as Ll′
-use Rattle.machine.specs.declared.lent.Ear.{Ear}
-use Rattle.machine.proofs.lent.Ear as Ea
-use Rattle.machine.proofs.lent.Ear.Laws as Ea′
-use Rattle.machine.specs.declared.step.Listened.{Listened}
-use Rattle.machine.proofs.step.Listened as Li
-use Rattle.machine.proofs.step.Listened.Laws as Li′
+use Rattle.decisions.specs.declared.arms.Ear.{Ear}
+use Rattle.decisions.proofs.arms.Ear as Ea
+use Rattle.decisions.proofs.arms.Ear.Laws as Ea′
+use Rattle.decisions.specs.declared.arms.Listened.{Listened}
+use Rattle.decisions.proofs.arms.Listened as Li
+use Rattle.decisions.proofs.arms.Listened.Laws as Li′
 use Rattle.model.specs.declared.Answer.{Answer}
 use Rattle.model.proofs.Answer as An
 use Rattle.model.proofs.Answer.Laws as An′
@@ -91,10 +93,10 @@ use Rattle.machine.proofs.lent.load_ear as load-ear
 use Rattle.machine.proofs.lent.load_ear.Symbol as load-ear-def
 use Rattle.machine.proofs.lent.load_ear.Symbol.{name as #load-ear}
 use Rattle.machine.proofs.lent.load_ear.Met as load-ear-thm
-use Rattle.machine.proofs.step.listen as listen
-use Rattle.machine.proofs.step.listen.Symbol as listen-def
-use Rattle.machine.proofs.step.listen.Symbol.{name as #listen}
-use Rattle.machine.proofs.step.listen.Met as listen-thm
+use Rattle.decisions.proofs.arms.listen as arms-listen
+use Rattle.decisions.proofs.arms.listen.Symbol as arms-listen-def
+use Rattle.decisions.proofs.arms.listen.Symbol.{name as #arms-listen}
+use Rattle.decisions.proofs.arms.listen.Met as arms-listen-thm
 use Rattle.machine.proofs.step.ear_in as ear-in
 use Rattle.machine.proofs.step.ear_in.Symbol as ear-in-def
 use Rattle.machine.proofs.step.ear_in.Symbol.{name as #ear-in}
@@ -183,8 +185,8 @@ module _ {M : Type 1} (𝓤 : URA M) (H : Heap 𝓤) (A : Atoms 𝓤) (mem : Mem
   abbrev Of-load-ear : Contract 𝓤
   Of-load-ear = tripleOf 𝓤 H A load-ear.signature (load-ear.spec 𝓤 H A mem run)
 
-  abbrev Of-listen : Contract 𝓤
-  Of-listen = tripleOf 𝓤 H A listen.signature (listen.spec 𝓤 H A mem run)
+  abbrev Of-arms-listen : Contract 𝓤
+  Of-arms-listen = tripleOf 𝓤 H A arms-listen.signature (arms-listen.spec 𝓤 H A mem run)
 
   abbrev Of-ear-in : Contract 𝓤
   Of-ear-in = tripleOf 𝓤 H A ear-in.signature (ear-in.spec 𝓤 H A mem run)
@@ -316,7 +318,7 @@ module _ {M : Type 1} (𝓤 : URA M) (H : Heap 𝓤) (A : Atoms 𝓤) (W : Given
       nothing ! $ owned ! Ms.the-row (Is Ms.the-row) makesMs m _ gm $ fjoin ! $ owned ! usize (Is usize) (uint-makes 𝓤 H A W w64) k _ gk $ fjoin ! $ owned ! Ev.the-row (Is Ev.the-row) makesEv e _ ge $ fjoin ! $ move ! (2 ∷ 0 ∷ []) $ fjoin ! $ move ! (1 ∷ 0 ∷ []) $ fjoin ! $
       owned ! Sz.the-row (Is Sz.the-row) makesSz z _ gz $ fjoin ! $ frame ! $ owned ! An.the-row (Is An.the-row) makesAn r₀ _ is $ done !
 
-  module _ (𝓣 : Tables 𝓤 H) (known-party-of : Triple 𝓤 (𝓣 .C #party-of) (Of-party-of 𝓤 H A mem run)) (known-learner-at : Triple 𝓤 (𝓣 .C #learner-at) (Of-learner-at 𝓤 H A mem run)) (known-proposer-of : Triple 𝓤 (𝓣 .C #proposer-of) (Of-proposer-of 𝓤 H A mem run)) (known-load-ear : Triple 𝓤 (𝓣 .C #load-ear) (Of-load-ear 𝓤 H A mem run)) (known-listen : Triple 𝓤 (𝓣 .C #listen) (Of-listen 𝓤 H A mem run)) (known-ear-in : Triple 𝓤 (𝓣 .C #ear-in) (Of-ear-in 𝓤 H A mem run)) (known-store-ear : Triple 𝓤 (𝓣 .C #store-ear) (Of-store-ear 𝓤 H A mem run)) (known-slot-heard : Triple 𝓤 (𝓣 .C #slot-heard) (Of-slot-heard 𝓤 H A mem run)) (known-store-message : Triple 𝓤 (𝓣 .C #store-message) (Of-store-message 𝓤 H A mem run)) (known-said-in : Triple 𝓤 (𝓣 .C #said-in) (Of-said-in 𝓤 H A mem run)) where
+  module _ (𝓣 : Tables 𝓤 H) (known-party-of : Triple 𝓤 (𝓣 .C #party-of) (Of-party-of 𝓤 H A mem run)) (known-learner-at : Triple 𝓤 (𝓣 .C #learner-at) (Of-learner-at 𝓤 H A mem run)) (known-proposer-of : Triple 𝓤 (𝓣 .C #proposer-of) (Of-proposer-of 𝓤 H A mem run)) (known-load-ear : Triple 𝓤 (𝓣 .C #load-ear) (Of-load-ear 𝓤 H A mem run)) (known-arms-listen : Triple 𝓤 (𝓣 .C #arms-listen) (Of-arms-listen 𝓤 H A mem run)) (known-ear-in : Triple 𝓤 (𝓣 .C #ear-in) (Of-ear-in 𝓤 H A mem run)) (known-store-ear : Triple 𝓤 (𝓣 .C #store-ear) (Of-store-ear 𝓤 H A mem run)) (known-slot-heard : Triple 𝓤 (𝓣 .C #slot-heard) (Of-slot-heard 𝓤 H A mem run)) (known-store-message : Triple 𝓤 (𝓣 .C #store-message) (Of-store-message 𝓤 H A mem run)) (known-said-in : Triple 𝓤 (𝓣 .C #said-in) (Of-said-in 𝓤 H A mem run)) where
     abbrev C : Calls 𝓤 H
     C = 𝓣 .C
 
@@ -383,8 +385,8 @@ module _ {M : Type 1} (𝓤 : URA M) (H : Heap 𝓤) (A : Atoms 𝓤) (W : Given
           calls-shared ! fm Le.the-row (plain (λ _. Ll.the-row) ∷ plain (λ _. Pi.the-row) ∷ []) Ea.the-row (yes, (yes, tt)) valEa (LL.tells Ea.the-type Ea′.the-laws) b₀ o₀ n₀ ls refl (λ ν. (valsLl, (valsPi, tt))) (λ ν. (makesLl, (makesPi, tt))) (λ ν. (lid, ((m .proposer), tt))) (λ ν. (g8, (g9, tt)))
           (load-ear.clauses 𝓤 H A mem run) known-load-ear x (λ ν δ. tt) (λ ν δ. factI 𝓤 _ (emp 𝓤) in-l) (λ ν δ r e′. id⊢ 𝓤 (fact 𝓤 (r ≡ x))) (λ ν δ. (and-then ! (reads ! (from ! (stop !)) (look ! 12 refl)) (and-then ! (reads ! (from ! (stop !)) (look ! 19 refl)) (and-then ! (reads ! (from ! (stop !)) (look ! 18 refl)) (no-more !))))) (λ g10.
           land ! (from ! (stop !)) (init ! 14 refl (typedEa x g10)) $
-          calls-value ! fm (listen.signature .params) Li.the-row (listen.ended .kept) (listen.clauses 𝓤 H A mem run) known-listen (valsSz, (valsEv, (valsMs, (valsEa, tt)))) (makesSz, (makesEv, (makesMs, (makesEa, tt)))) valLi (LL.tells Li.the-type Li′.the-laws)
-          (z, (e, (m, (x, tt)))) (gz, (ge, (gm, (g10, tt)))) tt (factI 𝓤 _ (emp 𝓤) (fit .0)) y (λ r e′. id⊢ 𝓤 (fact 𝓤 (r ≡ y))) (and-then ! (reads ! (from ! (stop !)) (look ! 24 refl)) (and-then ! (reads ! (from ! (stop !)) (look ! 21 refl)) (and-then ! (reads ! (from ! (stop !)) (look ! 19 refl)) (and-then ! (reads ! (from ! (stop !)) (look ! 15 refl)) (no-more !))))) (λ g11.
+          calls-value ! fm (arms-listen.signature .params) Li.the-row (arms-listen.ended .kept) (arms-listen.clauses 𝓤 H A mem run) known-arms-listen (valsSz, (valsEv, (valsMs, (valsEa, tt)))) (makesSz, (makesEv, (makesMs, (makesEa, tt)))) valLi (LL.tells Li.the-type Li′.the-laws)
+          (z, (e, (m, (x, tt)))) (gz, (ge, (gm, (g10, tt)))) tt (id⊢ 𝓤 (emp 𝓤)) y (λ r e′. fact-mono 𝓤 (r ≡ heardIn z e m x) (r ≡ y) (λ p. p ∙ heard-in z e m x (fit .1 .1 .0) (fit .0))) (and-then ! (reads ! (from ! (stop !)) (look ! 24 refl)) (and-then ! (reads ! (from ! (stop !)) (look ! 21 refl)) (and-then ! (reads ! (from ! (stop !)) (look ! 19 refl)) (and-then ! (reads ! (from ! (stop !)) (look ! 15 refl)) (no-more !))))) (λ g11.
           land ! (from ! (stop !)) (init ! 13 refl (typedLi y g11)) $
           forget ! 10 refl $
           forget ! 9 refl $
@@ -413,11 +415,11 @@ module _ {M : Type 1} (𝓤 : URA M) (H : Heap 𝓤) (A : Atoms 𝓤) (W : Given
         move ! (26 ∷ []) $ split ! $ move ! (1 ∷ []) $ split ! $
         keep ! (5 ∷ 2 ∷ 3 ∷ 0 ∷ 8 ∷ 9 ∷ 10 ∷ 11 ∷ 12 ∷ 13 ∷ 14 ∷ 15 ∷ 16 ∷ 17 ∷ 18 ∷ 19 ∷ 20 ∷ 21 ∷ 22 ∷ 23 ∷ 24 ∷ 25 ∷ 26 ∷ 27 ∷ 28 ∷ 7 ∷ []) $ part-1 l₀ l₁ l₂ l₃ l₄ l₅ l₆ l₇ l₈ l₉ l₁₀ l₁₁ l₁₂ l₁₃ l₁₄ l₁₅ l₁₆ l₁₇ l₁₈ l₁₉ l₂₀)))))))))))))))))))))
 
-module _ {M : Type 1} (𝓤 : URA M) (H : Heap 𝓤) (A : Atoms 𝓤) (W : Given 𝓤 H A) (mem : Memory → SProp 𝓤) (run : Routine → Fun 𝓤) (𝓣 : Tables 𝓤 H) (known-party-of : Triple 𝓤 (𝓣 .C #party-of) (Of-party-of 𝓤 H A mem run)) (known-learner-at : Triple 𝓤 (𝓣 .C #learner-at) (Of-learner-at 𝓤 H A mem run)) (known-proposer-of : Triple 𝓤 (𝓣 .C #proposer-of) (Of-proposer-of 𝓤 H A mem run)) (known-load-ear : Triple 𝓤 (𝓣 .C #load-ear) (Of-load-ear 𝓤 H A mem run)) (known-listen : Triple 𝓤 (𝓣 .C #listen) (Of-listen 𝓤 H A mem run)) (known-ear-in : Triple 𝓤 (𝓣 .C #ear-in) (Of-ear-in 𝓤 H A mem run)) (known-store-ear : Triple 𝓤 (𝓣 .C #store-ear) (Of-store-ear 𝓤 H A mem run)) (known-slot-heard : Triple 𝓤 (𝓣 .C #slot-heard) (Of-slot-heard 𝓤 H A mem run)) (known-store-message : Triple 𝓤 (𝓣 .C #store-message) (Of-store-message 𝓤 H A mem run)) (known-said-in : Triple 𝓤 (𝓣 .C #said-in) (Of-said-in 𝓤 H A mem run)) where
+module _ {M : Type 1} (𝓤 : URA M) (H : Heap 𝓤) (A : Atoms 𝓤) (W : Given 𝓤 H A) (mem : Memory → SProp 𝓤) (run : Routine → Fun 𝓤) (𝓣 : Tables 𝓤 H) (known-party-of : Triple 𝓤 (𝓣 .C #party-of) (Of-party-of 𝓤 H A mem run)) (known-learner-at : Triple 𝓤 (𝓣 .C #learner-at) (Of-learner-at 𝓤 H A mem run)) (known-proposer-of : Triple 𝓤 (𝓣 .C #proposer-of) (Of-proposer-of 𝓤 H A mem run)) (known-load-ear : Triple 𝓤 (𝓣 .C #load-ear) (Of-load-ear 𝓤 H A mem run)) (known-arms-listen : Triple 𝓤 (𝓣 .C #arms-listen) (Of-arms-listen 𝓤 H A mem run)) (known-ear-in : Triple 𝓤 (𝓣 .C #ear-in) (Of-ear-in 𝓤 H A mem run)) (known-store-ear : Triple 𝓤 (𝓣 .C #store-ear) (Of-store-ear 𝓤 H A mem run)) (known-slot-heard : Triple 𝓤 (𝓣 .C #slot-heard) (Of-slot-heard 𝓤 H A mem run)) (known-store-message : Triple 𝓤 (𝓣 .C #store-message) (Of-store-message 𝓤 H A mem run)) (known-said-in : Triple 𝓤 (𝓣 .C #said-in) (Of-said-in 𝓤 H A mem run)) where
   f-walks : Walks 𝓤 H A this.ended stayed (WpFn 𝓤 H (𝓣 .C) (𝓣 .Λ) code.function) (this.clauses 𝓤 H A mem run)
   f-walks = walked 𝓤 H A this.ended stayed (this.clauses 𝓤 H A mem run) (WpFn 𝓤 H (𝓣 .C) (𝓣 .Λ) code.function) (λ κs. (valsSz, (slice-vals, (slice-vals, (valsEv, (uint-vals w64, (valsMs, tt)))))))
       (λ κs. (LL.tells Sz.the-type Sz′.the-laws, (mut-slice-tells (named 0) (κs .0) Le.the-row, (mut-slice-tells (named 1) (κs .1 .0) Ms.the-row, (LL.tells Ev.the-type Ev′.the-laws, (uint-tells w64, (LL.tells Ms.the-type Ms′.the-laws, tt)))))))
-      (λ κs qs bounds a g are. needs 𝓤 (OfLearner (a .0) (a .1 .0 .now) (a .1 .1 .0 .now) (a .1 .1 .1 .0) (a .1 .1 .1 .1 .0) (a .1 .1 .1 .1 .1 .0)) _ (λ fit. walk 𝓤 H A W mem run (κs .0) (qs .0) (a .1 .0 .ptr .0) (a .1 .0 .ptr .1) (a .1 .0 .name) (κs .1 .0) (qs .1 .0) (a .1 .1 .0 .ptr .0) (a .1 .1 .0 .ptr .1) (a .1 .1 .0 .name) (a .0) (a .1 .0 .now) (a .1 .1 .0 .now) (a .1 .1 .1 .0) (a .1 .1 .1 .1 .0) (a .1 .1 .1 .1 .1 .0) (are .0) (are .1 .0 .0 .1) (are .1 .1 .0 .0 .1) (are .1 .1 .1 .0) (are .1 .1 .1 .1 .0) (are .1 .1 .1 .1 .1 .0) fit 𝓣 known-party-of known-learner-at known-proposer-of known-load-ear known-listen known-ear-in known-store-ear known-slot-heard known-store-message known-said-in))
+      (λ κs qs bounds a g are. needs 𝓤 (OfLearner (a .0) (a .1 .0 .now) (a .1 .1 .0 .now) (a .1 .1 .1 .0) (a .1 .1 .1 .1 .0) (a .1 .1 .1 .1 .1 .0)) _ (λ fit. walk 𝓤 H A W mem run (κs .0) (qs .0) (a .1 .0 .ptr .0) (a .1 .0 .ptr .1) (a .1 .0 .name) (κs .1 .0) (qs .1 .0) (a .1 .1 .0 .ptr .0) (a .1 .1 .0 .ptr .1) (a .1 .1 .0 .name) (a .0) (a .1 .0 .now) (a .1 .1 .0 .now) (a .1 .1 .1 .0) (a .1 .1 .1 .1 .0) (a .1 .1 .1 .1 .1 .0) (are .0) (are .1 .0 .0 .1) (are .1 .1 .0 .0 .1) (are .1 .1 .1 .0) (are .1 .1 .1 .1 .0) (are .1 .1 .1 .1 .1 .0) fit 𝓣 known-party-of known-learner-at known-proposer-of known-load-ear known-arms-listen known-ear-in known-store-ear known-slot-heard known-store-message known-said-in))
 
   f-meets : Meets 𝓤 H A this.signature (WpFn 𝓤 H (𝓣 .C) (𝓣 .Λ) code.function) (this.spec 𝓤 H A mem run)
   f-meets = walk-meets 𝓤 H A this.ended stayed W (goes-none 𝓤 H A W 2 (λ _. Sz.the-row) yes (λ κs x f. refl), (goes-slice 𝓤 H A W 2 0 tt (plain (λ _. Le.the-row)), (goes-slice 𝓤 H A W 2 1 tt (plain (λ _. Ms.the-row)), (goes-none 𝓤 H A W 2 (λ _. Ev.the-row) yes (λ κs x f. refl), (goes-none 𝓤 H A W 2 (λ _. usize) yes (λ κs x f. refl), (goes-none 𝓤 H A W 2 (λ _. Ms.the-row) yes (λ κs x f. refl), tt))))))
@@ -432,7 +434,7 @@ step-learner-spec 𝓤 H 𝓜 𝓖 𝓡 =
     (cited 𝓤 H (Of-learner-at 𝓤 H (𝓖 .A) (𝓜 .mem) (𝓡 .run)) 𝓜 𝓡 code.env #learner-at learner-at-def.routine code.calls-machine·step·learner-at (learner-at-thm.met 𝓤 H 𝓜 𝓖 𝓡))
     (cited 𝓤 H (Of-proposer-of 𝓤 H (𝓖 .A) (𝓜 .mem) (𝓡 .run)) 𝓜 𝓡 code.env #proposer-of proposer-of-def.routine code.calls-machine·step·proposer-of (proposer-of-thm.met 𝓤 H 𝓜 𝓖 𝓡))
     (cited 𝓤 H (Of-load-ear 𝓤 H (𝓖 .A) (𝓜 .mem) (𝓡 .run)) 𝓜 𝓡 code.env #load-ear load-ear-def.routine code.calls-machine·lent·load-ear (load-ear-thm.met 𝓤 H 𝓜 𝓖 𝓡))
-    (cited 𝓤 H (Of-listen 𝓤 H (𝓖 .A) (𝓜 .mem) (𝓡 .run)) 𝓜 𝓡 code.env #listen listen-def.routine code.calls-machine·step·listen (listen-thm.met 𝓤 H 𝓜 𝓖 𝓡))
+    (cited 𝓤 H (Of-arms-listen 𝓤 H (𝓖 .A) (𝓜 .mem) (𝓡 .run)) 𝓜 𝓡 code.env #arms-listen arms-listen-def.routine code.calls-decisions·arms·listen (arms-listen-thm.met 𝓤 H 𝓜 𝓖 𝓡))
     (cited 𝓤 H (Of-ear-in 𝓤 H (𝓖 .A) (𝓜 .mem) (𝓡 .run)) 𝓜 𝓡 code.env #ear-in ear-in-def.routine code.calls-machine·step·ear-in (ear-in-thm.met 𝓤 H 𝓜 𝓖 𝓡))
     (cited 𝓤 H (Of-store-ear 𝓤 H (𝓖 .A) (𝓜 .mem) (𝓡 .run)) 𝓜 𝓡 code.env #store-ear store-ear-def.routine code.calls-machine·lent·store-ear (store-ear-thm.met 𝓤 H 𝓜 𝓖 𝓡))
     (cited 𝓤 H (Of-slot-heard 𝓤 H (𝓖 .A) (𝓜 .mem) (𝓡 .run)) 𝓜 𝓡 code.env #slot-heard slot-heard-def.routine code.calls-machine·step·slot-heard (slot-heard-thm.met 𝓤 H 𝓜 𝓖 𝓡))

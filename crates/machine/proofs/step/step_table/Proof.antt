@@ -1,6 +1,6 @@
 -- `step_table` meets its contract: a walk of its MIR. Each call is one step: by value, or on one of the slices, which is lent and comes back. There is no branch. tools/machine_walks/roles.py writes this file.
 -- Assumes nothing.
-use mathlib.Core.Path.{_≡_, refl}
+use mathlib.Core.Path.{_≡_, refl, _∙_}
 use Prim.Native.Nat.{ℕ, _<_}
 use mathlib.Core.List.{List, [], _∷_}
 use lib.Dec.{T as Holds}
@@ -42,8 +42,9 @@ use Rattle.model.specs.Table.{post}
 use Rattle.decisions.specs.Sending.{itemsOf, lacking}
 use Rattle.decisions.specs.Change.{slotAfter}
 use Rattle.machine.specs.Slots.{Ready}
-use Rattle.machine.specs.Stepping.{within, partyOf, decideOf, finishOf, replyOf}
-use Rattle.machine.specs.Roles.{proposerAt, acceptorAt, decisionAt, finishedAt, stepAt, armOf, OfTable}
+use Rattle.decisions.specs.Arms.{armOf, decideOf, finishOf, decidedIn, toldIn, saidOf}
+use Rattle.machine.specs.Stepping.{within, partyOf}
+use Rattle.machine.specs.Roles.{proposerAt, acceptorAt, decisionAt, finishedAt, stepAt, OfTable}
 use Rattle.model.specs.Records.{freshProposer, freshAcceptor, freshLearner}
 use Rattle.machine.proofs.Frees.{full, bare, dies-apart, frees-all}
 use Rattle.machine.proofs.Relending.{Slice, listAt}
@@ -51,8 +52,9 @@ use Rattle.machine.proofs.CallsByValue.{calls-value}
 use Rattle.machine.proofs.CallsLending.{calls-shared, calls-lent}
 use Rattle.sizes.proofs.SizeLaws.{bounds}
 use Rattle.machine.proofs.Readiness.{within-in as party-there}
+use Rattle.decisions.proofs.Deciding.{decided-in, told-in}
 use Rattle.machine.proofs.Roles.{not-of, quiet-finished}
-use Rattle.machine.proofs.Arms.{ready-at}
+use Rattle.machine.proofs.Arms.{ready-at, said-as}
 use Rattle.model.specs.declared.Message.{Message}
 use Rattle.model.proofs.Message as Ms
 use Rattle.model.proofs.Message.Laws as Ms′
@@ -65,16 +67,16 @@ use Rattle.model.proofs.Event.Laws as Ev′
 use Rattle.decisions.specs.declared.sending.Send.{Send}
 use Rattle.decisions.proofs.sending.Send as Sd
 use Rattle.decisions.proofs.sending.Send.Laws as Sd′
-use Rattle.machine.specs.declared.step.Decision.{Decision}
-use Rattle.machine.proofs.step.Decision as Dn
-use Rattle.machine.proofs.step.Decision.Laws as Dn′
+use Rattle.decisions.specs.declared.arms.Decision.{Decision}
+use Rattle.decisions.proofs.arms.Decision as Dn
+use Rattle.decisions.proofs.arms.Decision.Laws as Dn′
 use Rattle.model.specs.declared.Answer.{Answer}
 use Rattle.model.proofs.Answer as An
 use Rattle.model.proofs.Answer.Laws as An′
-use Rattle.machine.proofs.step.decide_table as decide-table
-use Rattle.machine.proofs.step.decide_table.Symbol as decide-table-def
-use Rattle.machine.proofs.step.decide_table.Symbol.{name as #decide-table}
-use Rattle.machine.proofs.step.decide_table.Met as decide-table-thm
+use Rattle.decisions.proofs.arms.decide_table as arms-decide-table
+use Rattle.decisions.proofs.arms.decide_table.Symbol as arms-decide-table-def
+use Rattle.decisions.proofs.arms.decide_table.Symbol.{name as #arms-decide-table}
+use Rattle.decisions.proofs.arms.decide_table.Met as arms-decide-table-thm
 use Rattle.machine.proofs.step.need_in as need-in
 use Rattle.machine.proofs.step.need_in.Symbol as need-in-def
 use Rattle.machine.proofs.step.need_in.Symbol.{name as #need-in}
@@ -103,10 +105,10 @@ use Rattle.machine.proofs.lent.send_all as send-all
 use Rattle.machine.proofs.lent.send_all.Symbol as send-all-def
 use Rattle.machine.proofs.lent.send_all.Symbol.{name as #send-all}
 use Rattle.machine.proofs.lent.send_all.Met as send-all-thm
-use Rattle.machine.proofs.step.reply as reply
-use Rattle.machine.proofs.step.reply.Symbol as reply-def
-use Rattle.machine.proofs.step.reply.Symbol.{name as #reply}
-use Rattle.machine.proofs.step.reply.Met as reply-thm
+use Rattle.decisions.proofs.arms.reply as arms-reply
+use Rattle.decisions.proofs.arms.reply.Symbol as arms-reply-def
+use Rattle.decisions.proofs.arms.reply.Symbol.{name as #arms-reply}
+use Rattle.decisions.proofs.arms.reply.Met as arms-reply-thm
 use Rattle.machine.proofs.step.step_table.Key.{name}
 use Rattle.machine.proofs.step.step_table as this
 use Rattle.machine.proofs.step.step_table.Statement.{statement}
@@ -151,8 +153,8 @@ valAn = EL.val An.the-type An′.the-laws
 
 -- the contracts that the proof cites
 module _ {M : Type 1} (𝓤 : URA M) (H : Heap 𝓤) (A : Atoms 𝓤) (mem : Memory → SProp 𝓤) (run : Routine → Fun 𝓤) where
-  abbrev Of-decide-table : Contract 𝓤
-  Of-decide-table = tripleOf 𝓤 H A decide-table.signature (decide-table.spec 𝓤 H A mem run)
+  abbrev Of-arms-decide-table : Contract 𝓤
+  Of-arms-decide-table = tripleOf 𝓤 H A arms-decide-table.signature (arms-decide-table.spec 𝓤 H A mem run)
 
   abbrev Of-need-in : Contract 𝓤
   Of-need-in = tripleOf 𝓤 H A need-in.signature (need-in.spec 𝓤 H A mem run)
@@ -175,8 +177,8 @@ module _ {M : Type 1} (𝓤 : URA M) (H : Heap 𝓤) (A : Atoms 𝓤) (mem : Mem
   abbrev Of-send-all : Contract 𝓤
   Of-send-all = tripleOf 𝓤 H A send-all.signature (send-all.spec 𝓤 H A mem run)
 
-  abbrev Of-reply : Contract 𝓤
-  Of-reply = tripleOf 𝓤 H A reply.signature (reply.spec 𝓤 H A mem run)
+  abbrev Of-arms-reply : Contract 𝓤
+  Of-arms-reply = tripleOf 𝓤 H A arms-reply.signature (arms-reply.spec 𝓤 H A mem run)
 
 abbrev word : Ty
 word = tyInt w64
@@ -217,7 +219,7 @@ module _ {M : Type 1} (𝓤 : URA M) (H : Heap 𝓤) (A : Atoms 𝓤) (W : Given
   t′ = post (itemsOf (f .change .send)) t₁
 
   abbrev r₀ : Answer
-  r₀ = replyOf z e f m freshLearner
+  r₀ = saidOf e f
 
   in-k : k < length t
   in-k = fit .1 .1 .0
@@ -264,12 +266,12 @@ module _ {M : Type 1} (𝓤 : URA M) (H : Heap 𝓤) (A : Atoms 𝓤) (W : Given
   exits : Is An.the-row r₀ (valsAn r₀) → length t′ ≡ n₀ → ent 𝓤 (⋆ 𝓤 H A (‵ (Slice Ms.the-row κ₀ γ₀ b₀ o₀ n₀ t′) ∷ ‵ (flft κ₀ q₀) ∷ [])) (Post (valAn r₀))
   exits is e₀ =
       qed W (‵ (Slice Ms.the-row κ₀ γ₀ b₀ o₀ n₀ t′) ∷ ‵ (flft κ₀ q₀) ∷ []) ∵
-      suffices ! _ (ends-at 𝓤 H A this.ended stayed (this.clauses 𝓤 H A mem run) W (((κ₀, tt), (q₀, tt), tt, (z, (listAt Ms.the-row b₀ o₀ t γ₀, (e, (k, (m, tt))))), at), tt) (valAn r₀) r₀ (tt, (t′, (tt, (tt, (tt, tt))))) (tt, (e₀, (tt, (tt, (tt, tt)))))) $ says ! (refl, refl) $
+      suffices ! _ (ends-at 𝓤 H A this.ended stayed (this.clauses 𝓤 H A mem run) W (((κ₀, tt), (q₀, tt), tt, (z, (listAt Ms.the-row b₀ o₀ t γ₀, (e, (k, (m, tt))))), at), tt) (valAn r₀) r₀ (tt, (t′, (tt, (tt, (tt, tt))))) (tt, (e₀, (tt, (tt, (tt, tt)))))) $ says ! (said-as z e f m freshLearner (quiet-finished z e k m [] [] [] t (not-of 0 3 (armOf e m) (fit .0) tt) .0), refl) $
       nothing ! $ move ! (2 ∷ 0 ∷ []) $ join ! $ frame ! $
       nothing ! $ owned ! Ms.the-row (Is Ms.the-row) makesMs m _ gm $ fjoin ! $ owned ! usize (Is usize) (uint-makes 𝓤 H A W w64) k _ gk $ fjoin ! $ owned ! Ev.the-row (Is Ev.the-row) makesEv e _ ge $ fjoin ! $ move ! (1 ∷ 0 ∷ []) $ fjoin ! $
       owned ! Sz.the-row (Is Sz.the-row) makesSz z _ gz $ fjoin ! $ frame ! $ owned ! An.the-row (Is An.the-row) makesAn r₀ _ is $ done !
 
-  module _ (𝓣 : Tables 𝓤 H) (known-decide-table : Triple 𝓤 (𝓣 .C #decide-table) (Of-decide-table 𝓤 H A mem run)) (known-need-in : Triple 𝓤 (𝓣 .C #need-in) (Of-need-in 𝓤 H A mem run)) (known-room : Triple 𝓤 (𝓣 .C #room) (Of-room 𝓤 H A mem run)) (known-finish-table : Triple 𝓤 (𝓣 .C #finish-table) (Of-finish-table 𝓤 H A mem run)) (known-slot-in : Triple 𝓤 (𝓣 .C #slot-in) (Of-slot-in 𝓤 H A mem run)) (known-store-message : Triple 𝓤 (𝓣 .C #store-message) (Of-store-message 𝓤 H A mem run)) (known-send-in : Triple 𝓤 (𝓣 .C #send-in) (Of-send-in 𝓤 H A mem run)) (known-send-all : Triple 𝓤 (𝓣 .C #send-all) (Of-send-all 𝓤 H A mem run)) (known-reply : Triple 𝓤 (𝓣 .C #reply) (Of-reply 𝓤 H A mem run)) where
+  module _ (𝓣 : Tables 𝓤 H) (known-arms-decide-table : Triple 𝓤 (𝓣 .C #arms-decide-table) (Of-arms-decide-table 𝓤 H A mem run)) (known-need-in : Triple 𝓤 (𝓣 .C #need-in) (Of-need-in 𝓤 H A mem run)) (known-room : Triple 𝓤 (𝓣 .C #room) (Of-room 𝓤 H A mem run)) (known-finish-table : Triple 𝓤 (𝓣 .C #finish-table) (Of-finish-table 𝓤 H A mem run)) (known-slot-in : Triple 𝓤 (𝓣 .C #slot-in) (Of-slot-in 𝓤 H A mem run)) (known-store-message : Triple 𝓤 (𝓣 .C #store-message) (Of-store-message 𝓤 H A mem run)) (known-send-in : Triple 𝓤 (𝓣 .C #send-in) (Of-send-in 𝓤 H A mem run)) (known-send-all : Triple 𝓤 (𝓣 .C #send-all) (Of-send-all 𝓤 H A mem run)) (known-arms-reply : Triple 𝓤 (𝓣 .C #arms-reply) (Of-arms-reply 𝓤 H A mem run)) where
     abbrev C : Calls 𝓤 H
     C = 𝓣 .C
 
@@ -289,8 +291,8 @@ module _ {M : Type 1} (𝓤 : URA M) (H : Heap 𝓤) (A : Atoms 𝓤) (W : Given
       part-5 : (g6 : Is Dn.the-row d (valsDn d)) → (g7 : Is u8 (d .need) (uint-vals w8 (d .need))) → (g8 : Is u8 (lacking (d .need) t) (uint-vals w8 (lacking (d .need) t))) → (g9 : Is Dn.the-row f (valsDn f)) → (g10 : Is Ms.the-row m′ (valsMs m′)) → (g11 : Is Sd.the-row (f .change .send) (valsSd (f .change .send))) → (e18 : length t′ ≡ n₀) → Sq W (‵ (Slice Ms.the-row κ₀ γ₀ b₀ o₀ n₀ t′) ∷ ‵ (flft κ₀ q₀)
           ∷ ‵ (froom (sliceTy (tyRef erased mut (pointee (Ms.the-row .written)))) l₁₈ 0) ∷ ‵ (froom (tyRef erased mut (pointee (Ms.the-row .written))) l₁₇ 0) ∷ ‵ (froom (sliceTy (tyRef erased mut (pointee (Ms.the-row .written)))) l₁₆ 0) ∷ ‵ (froom (tyRef erased mut (pointee (Ms.the-row .written))) l₁₅ 0) ∷ ‵ (froom tyUnit l₁₄ 0) ∷ ‵ (froom (sliceTy (tyRef erased imm (pointee (Ms.the-row .written)))) l₁₃ 0) ∷ ‵ (froom (tyRef erased imm (pointee (Ms.the-row .written))) l₁₂ 0) ∷ ‵ (fat fullShare Sd′.mir l₁₁ 0 (valSd (f .change .send))) ∷ ‵ (fat fullShare Ms′.mir l₁₀ 0 (valMs m′)) ∷ ‵ (fat fullShare Dn′.mir l₉ 0 (valDn f)) ∷ ‵ (fat fullShare byte l₈ 0 (vint w8 (lacking (d .need) t))) ∷ ‵ (fat fullShare byte l₇ 0 (vint w8 (d .need))) ∷ ‵ (fat fullShare Dn′.mir l₆ 0 (valDn d)) ∷ ‵ (fat fullShare Ms′.mir l₅ 0 (valMs m)) ∷ ‵ (fat fullShare word l₄ 0 (vint w64 k)) ∷ ‵ (fat fullShare Ev′.mir l₃ 0 (valEv e)) ∷ ‵ (fat fullShare (sliceTy (tyRef (named 0) mut (pointee (Ms.the-row .written)))) l₂ 0 s₀) ∷ ‵ (fat fullShare Sz′.mir l₁ 0 (valSz z)) ∷ ‵ (froom An′.mir l₀ 0) ∷ Dies ∷ []) (runs C Λ En pieces.t-15 (atRet En Post))
       part-5 g6 g7 g8 g9 g10 g11 e18 =
-          calls-value ! fm (reply.signature .params) An.the-row (reply.ended .kept) (reply.clauses 𝓤 H A mem run) known-reply (valsSz, (valsEv, (valsDn, (valsMs, tt)))) (makesSz, (makesEv, (makesDn, (makesMs, tt)))) valAn (EL.tells An.the-type An′.the-laws)
-          (z, (e, (f, (m, tt)))) (gz, (ge, (g9, (gm, tt)))) tt (factI 𝓤 _ (emp 𝓤) (quiet-finished z e k m [] [] [] t (not-of 0 3 (armOf e m) (fit .0) tt) .0)) r₀ (λ r e′. id⊢ 𝓤 (fact 𝓤 (r ≡ r₀))) (and-then ! (reads ! (from ! (stop !)) (look ! 20 refl)) (and-then ! (reads ! (from ! (stop !)) (look ! 18 refl)) (and-then ! (reads ! (from ! (stop !)) (look ! 12 refl)) (and-then ! (reads ! (from ! (stop !)) (look ! 16 refl)) (no-more !))))) (λ g0.
+          calls-value ! fm (arms-reply.signature .params) An.the-row (arms-reply.ended .kept) (arms-reply.clauses 𝓤 H A mem run) known-arms-reply (valsEv, (valsDn, tt)) (makesEv, (makesDn, tt)) valAn (EL.tells An.the-type An′.the-laws)
+          (e, (f, tt)) (ge, (g9, tt)) tt (id⊢ 𝓤 (emp 𝓤)) r₀ (λ r e′. id⊢ 𝓤 (fact 𝓤 (r ≡ r₀))) (and-then ! (reads ! (from ! (stop !)) (look ! 18 refl)) (and-then ! (reads ! (from ! (stop !)) (look ! 12 refl)) (no-more !))) (λ g0.
           land ! (from ! (stop !)) (init ! 20 refl (typedAn r₀ g0)) $
           returns ! (look ! 20 refl) $ frees-all ! 2 (bare _ _ ∷ bare _ _ ∷ bare _ _ ∷ bare _ _ ∷ bare _ _ ∷ bare _ _ ∷ bare _ _ ∷ full _ _ _ ∷ full _ _ _ ∷ full _ _ _ ∷ full _ _ _ ∷ full _ _ _ ∷ full _ _ _ ∷ full _ _ _ ∷ full _ _ _ ∷ full _ _ _ ∷ full _ _ _ ∷ full _ _ _ ∷ full _ _ _ ∷ []) refl refl $
           keep ! (0 ∷ 1 ∷ []) $ by ! (exits g0 e18))
@@ -345,8 +347,8 @@ module _ {M : Type 1} (𝓤 : URA M) (H : Heap 𝓤) (A : Atoms 𝓤) (W : Given
       part-1 : Sq W (‵ (Slice Ms.the-row κ₀ γ₀ b₀ o₀ n₀ t) ∷ ‵ (flft κ₀ q₀)
           ∷ ‵ (froom (sliceTy (tyRef erased mut (pointee (Ms.the-row .written)))) l₁₈ 0) ∷ ‵ (froom (tyRef erased mut (pointee (Ms.the-row .written))) l₁₇ 0) ∷ ‵ (froom (sliceTy (tyRef erased mut (pointee (Ms.the-row .written)))) l₁₆ 0) ∷ ‵ (froom (tyRef erased mut (pointee (Ms.the-row .written))) l₁₅ 0) ∷ ‵ (froom tyUnit l₁₄ 0) ∷ ‵ (froom (sliceTy (tyRef erased imm (pointee (Ms.the-row .written)))) l₁₃ 0) ∷ ‵ (froom (tyRef erased imm (pointee (Ms.the-row .written))) l₁₂ 0) ∷ ‵ (froom Sd′.mir l₁₁ 0) ∷ ‵ (froom Ms′.mir l₁₀ 0) ∷ ‵ (froom Dn′.mir l₉ 0) ∷ ‵ (froom byte l₈ 0) ∷ ‵ (froom byte l₇ 0) ∷ ‵ (froom Dn′.mir l₆ 0) ∷ ‵ (fat fullShare Ms′.mir l₅ 0 (valMs m)) ∷ ‵ (fat fullShare word l₄ 0 (vint w64 k)) ∷ ‵ (fat fullShare Ev′.mir l₃ 0 (valEv e)) ∷ ‵ (fat fullShare (sliceTy (tyRef (named 0) mut (pointee (Ms.the-row .written)))) l₂ 0 s₀) ∷ ‵ (fat fullShare Sz′.mir l₁ 0 (valSz z)) ∷ ‵ (froom An′.mir l₀ 0) ∷ Dies ∷ []) (runs C Λ En pieces.t-1 (atRet En Post))
       part-1 =
-          calls-value ! fm (decide-table.signature .params) Dn.the-row (decide-table.ended .kept) (decide-table.clauses 𝓤 H A mem run) known-decide-table (valsSz, (valsEv, (valsMs, tt))) (makesSz, (makesEv, (makesMs, tt))) valDn (LL.tells Dn.the-type Dn′.the-laws)
-          (z, (e, (m, tt))) (gz, (ge, (gm, tt))) tt (factI 𝓤 _ (emp 𝓤) (fit .0)) d (λ r e′. id⊢ 𝓤 (fact 𝓤 (r ≡ d))) (and-then ! (reads ! (from ! (stop !)) (look ! 20 refl)) (and-then ! (reads ! (from ! (stop !)) (look ! 18 refl)) (and-then ! (reads ! (from ! (stop !)) (look ! 16 refl)) (no-more !)))) (λ g6.
+          calls-value ! fm (arms-decide-table.signature .params) Dn.the-row (arms-decide-table.ended .kept) (arms-decide-table.clauses 𝓤 H A mem run) known-arms-decide-table (valsSz, (valsEv, (valsMs, tt))) (makesSz, (makesEv, (makesMs, tt))) valDn (LL.tells Dn.the-type Dn′.the-laws)
+          (z, (e, (m, tt))) (gz, (ge, (gm, tt))) tt (id⊢ 𝓤 (emp 𝓤)) d (λ r e′. fact-mono 𝓤 (r ≡ decidedIn 0 z e m freshProposer freshAcceptor) (r ≡ d) (λ p. p ∙ decided-in 0 z e m freshProposer freshAcceptor (fit .1 .0) (fit .0))) (and-then ! (reads ! (from ! (stop !)) (look ! 20 refl)) (and-then ! (reads ! (from ! (stop !)) (look ! 18 refl)) (and-then ! (reads ! (from ! (stop !)) (look ! 16 refl)) (no-more !)))) (λ g6.
           land ! (from ! (stop !)) (init ! 14 refl (typedDn d g6)) $
           calls-value ! fm (need-in.signature .params) u8 (need-in.ended .kept) (need-in.clauses 𝓤 H A mem run) known-need-in (valsDn, tt) (makesDn, tt) (vint w8) (uint-tells w8)
           (d, tt) (g6, tt) tt (id⊢ 𝓤 (emp 𝓤)) (d .need) (λ r e′. id⊢ 𝓤 (fact 𝓤 (r ≡ (d .need)))) (and-then ! (reads ! (from ! (stop !)) (look ! 15 refl)) (no-more !)) (λ g7.
@@ -362,11 +364,11 @@ module _ {M : Type 1} (𝓤 : URA M) (H : Heap 𝓤) (A : Atoms 𝓤) (W : Given
         move ! (23 ∷ []) $ split ! $
         keep ! (2 ∷ 0 ∷ 6 ∷ 7 ∷ 8 ∷ 9 ∷ 10 ∷ 11 ∷ 12 ∷ 13 ∷ 14 ∷ 15 ∷ 16 ∷ 17 ∷ 18 ∷ 19 ∷ 20 ∷ 21 ∷ 22 ∷ 23 ∷ 24 ∷ 5 ∷ []) $ part-1 l₀ l₁ l₂ l₃ l₄ l₅ l₆ l₇ l₈ l₉ l₁₀ l₁₁ l₁₂ l₁₃ l₁₄ l₁₅ l₁₆ l₁₇ l₁₈)))))))))))))))))))
 
-module _ {M : Type 1} (𝓤 : URA M) (H : Heap 𝓤) (A : Atoms 𝓤) (W : Given 𝓤 H A) (mem : Memory → SProp 𝓤) (run : Routine → Fun 𝓤) (𝓣 : Tables 𝓤 H) (known-decide-table : Triple 𝓤 (𝓣 .C #decide-table) (Of-decide-table 𝓤 H A mem run)) (known-need-in : Triple 𝓤 (𝓣 .C #need-in) (Of-need-in 𝓤 H A mem run)) (known-room : Triple 𝓤 (𝓣 .C #room) (Of-room 𝓤 H A mem run)) (known-finish-table : Triple 𝓤 (𝓣 .C #finish-table) (Of-finish-table 𝓤 H A mem run)) (known-slot-in : Triple 𝓤 (𝓣 .C #slot-in) (Of-slot-in 𝓤 H A mem run)) (known-store-message : Triple 𝓤 (𝓣 .C #store-message) (Of-store-message 𝓤 H A mem run)) (known-send-in : Triple 𝓤 (𝓣 .C #send-in) (Of-send-in 𝓤 H A mem run)) (known-send-all : Triple 𝓤 (𝓣 .C #send-all) (Of-send-all 𝓤 H A mem run)) (known-reply : Triple 𝓤 (𝓣 .C #reply) (Of-reply 𝓤 H A mem run)) where
+module _ {M : Type 1} (𝓤 : URA M) (H : Heap 𝓤) (A : Atoms 𝓤) (W : Given 𝓤 H A) (mem : Memory → SProp 𝓤) (run : Routine → Fun 𝓤) (𝓣 : Tables 𝓤 H) (known-arms-decide-table : Triple 𝓤 (𝓣 .C #arms-decide-table) (Of-arms-decide-table 𝓤 H A mem run)) (known-need-in : Triple 𝓤 (𝓣 .C #need-in) (Of-need-in 𝓤 H A mem run)) (known-room : Triple 𝓤 (𝓣 .C #room) (Of-room 𝓤 H A mem run)) (known-finish-table : Triple 𝓤 (𝓣 .C #finish-table) (Of-finish-table 𝓤 H A mem run)) (known-slot-in : Triple 𝓤 (𝓣 .C #slot-in) (Of-slot-in 𝓤 H A mem run)) (known-store-message : Triple 𝓤 (𝓣 .C #store-message) (Of-store-message 𝓤 H A mem run)) (known-send-in : Triple 𝓤 (𝓣 .C #send-in) (Of-send-in 𝓤 H A mem run)) (known-send-all : Triple 𝓤 (𝓣 .C #send-all) (Of-send-all 𝓤 H A mem run)) (known-arms-reply : Triple 𝓤 (𝓣 .C #arms-reply) (Of-arms-reply 𝓤 H A mem run)) where
   f-walks : Walks 𝓤 H A this.ended stayed (WpFn 𝓤 H (𝓣 .C) (𝓣 .Λ) code.function) (this.clauses 𝓤 H A mem run)
   f-walks = walked 𝓤 H A this.ended stayed (this.clauses 𝓤 H A mem run) (WpFn 𝓤 H (𝓣 .C) (𝓣 .Λ) code.function) (λ κs. (valsSz, (slice-vals, (valsEv, (uint-vals w64, (valsMs, tt))))))
       (λ κs. (LL.tells Sz.the-type Sz′.the-laws, (mut-slice-tells (named 0) (κs .0) Ms.the-row, (LL.tells Ev.the-type Ev′.the-laws, (uint-tells w64, (LL.tells Ms.the-type Ms′.the-laws, tt))))))
-      (λ κs qs bounds a g are. needs 𝓤 (OfTable (a .0) (a .1 .0 .now) (a .1 .1 .0) (a .1 .1 .1 .0) (a .1 .1 .1 .1 .0)) _ (λ fit. walk 𝓤 H A W mem run (κs .0) (qs .0) (a .1 .0 .ptr .0) (a .1 .0 .ptr .1) (a .1 .0 .name) (a .0) (a .1 .0 .now) (a .1 .1 .0) (a .1 .1 .1 .0) (a .1 .1 .1 .1 .0) (are .0) (are .1 .0 .0 .1) (are .1 .1 .0) (are .1 .1 .1 .0) (are .1 .1 .1 .1 .0) fit 𝓣 known-decide-table known-need-in known-room known-finish-table known-slot-in known-store-message known-send-in known-send-all known-reply))
+      (λ κs qs bounds a g are. needs 𝓤 (OfTable (a .0) (a .1 .0 .now) (a .1 .1 .0) (a .1 .1 .1 .0) (a .1 .1 .1 .1 .0)) _ (λ fit. walk 𝓤 H A W mem run (κs .0) (qs .0) (a .1 .0 .ptr .0) (a .1 .0 .ptr .1) (a .1 .0 .name) (a .0) (a .1 .0 .now) (a .1 .1 .0) (a .1 .1 .1 .0) (a .1 .1 .1 .1 .0) (are .0) (are .1 .0 .0 .1) (are .1 .1 .0) (are .1 .1 .1 .0) (are .1 .1 .1 .1 .0) fit 𝓣 known-arms-decide-table known-need-in known-room known-finish-table known-slot-in known-store-message known-send-in known-send-all known-arms-reply))
 
   f-meets : Meets 𝓤 H A this.signature (WpFn 𝓤 H (𝓣 .C) (𝓣 .Λ) code.function) (this.spec 𝓤 H A mem run)
   f-meets = walk-meets 𝓤 H A this.ended stayed W (goes-none 𝓤 H A W 1 (λ _. Sz.the-row) yes (λ κs x f. refl), (goes-slice 𝓤 H A W 1 0 tt (plain (λ _. Ms.the-row)), (goes-none 𝓤 H A W 1 (λ _. Ev.the-row) yes (λ κs x f. refl), (goes-none 𝓤 H A W 1 (λ _. usize) yes (λ κs x f. refl), (goes-none 𝓤 H A W 1 (λ _. Ms.the-row) yes (λ κs x f. refl), tt)))))
@@ -377,7 +379,7 @@ unfolding code.routine tablesOf
 step-table-spec 𝓤 H 𝓜 𝓖 𝓡 =
     entered 𝓤 H (tripleOf 𝓤 H (𝓖 .A) this.signature (this.spec 𝓤 H (𝓖 .A) (𝓜 .mem) (𝓡 .run))) (tables 𝓤 H 𝓜 𝓡 code.env .C) (tables 𝓤 H 𝓜 𝓡 code.env .Λ) name code.function (code.unfolded 𝓤 H 𝓜 𝓡)
     (f-meets 𝓤 H (𝓖 .A) (givenOf 𝓤 H 𝓜 𝓖) (𝓜 .mem) (𝓡 .run) (tablesOf 𝓤 H 𝓜 (tables 𝓤 H 𝓜 𝓡 code.env))
-    (cited 𝓤 H (Of-decide-table 𝓤 H (𝓖 .A) (𝓜 .mem) (𝓡 .run)) 𝓜 𝓡 code.env #decide-table decide-table-def.routine code.calls-machine·step·decide-table (decide-table-thm.met 𝓤 H 𝓜 𝓖 𝓡))
+    (cited 𝓤 H (Of-arms-decide-table 𝓤 H (𝓖 .A) (𝓜 .mem) (𝓡 .run)) 𝓜 𝓡 code.env #arms-decide-table arms-decide-table-def.routine code.calls-decisions·arms·decide-table (arms-decide-table-thm.met 𝓤 H 𝓜 𝓖 𝓡))
     (cited 𝓤 H (Of-need-in 𝓤 H (𝓖 .A) (𝓜 .mem) (𝓡 .run)) 𝓜 𝓡 code.env #need-in need-in-def.routine code.calls-machine·step·need-in (need-in-thm.met 𝓤 H 𝓜 𝓖 𝓡))
     (cited 𝓤 H (Of-room 𝓤 H (𝓖 .A) (𝓜 .mem) (𝓡 .run)) 𝓜 𝓡 code.env #room room-def.routine code.calls-machine·lent·room (room-thm.met 𝓤 H 𝓜 𝓖 𝓡))
     (cited 𝓤 H (Of-finish-table 𝓤 H (𝓖 .A) (𝓜 .mem) (𝓡 .run)) 𝓜 𝓡 code.env #finish-table finish-table-def.routine code.calls-machine·step·finish-table (finish-table-thm.met 𝓤 H 𝓜 𝓖 𝓡))
@@ -385,4 +387,4 @@ step-table-spec 𝓤 H 𝓜 𝓖 𝓡 =
     (cited 𝓤 H (Of-store-message 𝓤 H (𝓖 .A) (𝓜 .mem) (𝓡 .run)) 𝓜 𝓡 code.env #store-message store-message-def.routine code.calls-machine·lent·store-message (store-message-thm.met 𝓤 H 𝓜 𝓖 𝓡))
     (cited 𝓤 H (Of-send-in 𝓤 H (𝓖 .A) (𝓜 .mem) (𝓡 .run)) 𝓜 𝓡 code.env #send-in send-in-def.routine code.calls-machine·step·send-in (send-in-thm.met 𝓤 H 𝓜 𝓖 𝓡))
     (cited 𝓤 H (Of-send-all 𝓤 H (𝓖 .A) (𝓜 .mem) (𝓡 .run)) 𝓜 𝓡 code.env #send-all send-all-def.routine code.calls-machine·lent·send-all (send-all-thm.met 𝓤 H 𝓜 𝓖 𝓡))
-    (cited 𝓤 H (Of-reply 𝓤 H (𝓖 .A) (𝓜 .mem) (𝓡 .run)) 𝓜 𝓡 code.env #reply reply-def.routine code.calls-machine·step·reply (reply-thm.met 𝓤 H 𝓜 𝓖 𝓡)))
+    (cited 𝓤 H (Of-arms-reply 𝓤 H (𝓖 .A) (𝓜 .mem) (𝓡 .run)) 𝓜 𝓡 code.env #arms-reply arms-reply-def.routine code.calls-decisions·arms·reply (arms-reply-thm.met 𝓤 H 𝓜 𝓖 𝓡)))

@@ -1,6 +1,6 @@
 -- `step_told` meets its contract: a walk of its MIR. Each call is one step: by value, or on one of the slices, which is lent and comes back. There is no branch. tools/machine_walks/roles.py writes this file.
 -- Assumes nothing.
-use mathlib.Core.Path.{_≡_, refl}
+use mathlib.Core.Path.{_≡_, refl, _∙_}
 use Prim.Native.Nat.{ℕ, _<_}
 use mathlib.Core.List.{List, [], _∷_}
 use lib.Dec.{T as Holds}
@@ -42,8 +42,9 @@ use Rattle.model.specs.Table.{post}
 use Rattle.decisions.specs.Sending.{itemsOf, lacking}
 use Rattle.decisions.specs.Change.{slotAfter}
 use Rattle.machine.specs.Slots.{Ready}
-use Rattle.machine.specs.Stepping.{within, partyOf, decideOf, finishOf, replyOf}
-use Rattle.machine.specs.Roles.{proposerAt, acceptorAt, decisionAt, finishedAt, stepAt, armOf, OfTold}
+use Rattle.decisions.specs.Arms.{armOf, decideOf, finishOf, decidedIn, toldIn, saidOf}
+use Rattle.machine.specs.Stepping.{within, partyOf}
+use Rattle.machine.specs.Roles.{proposerAt, acceptorAt, decisionAt, finishedAt, stepAt, OfTold}
 use Rattle.model.specs.Records.{freshProposer, freshAcceptor, freshLearner}
 use Rattle.machine.proofs.Frees.{full, bare, dies-apart, frees-all}
 use Rattle.machine.proofs.Relending.{Slice, listAt}
@@ -51,8 +52,9 @@ use Rattle.machine.proofs.CallsByValue.{calls-value}
 use Rattle.machine.proofs.CallsLending.{calls-shared, calls-lent}
 use Rattle.sizes.proofs.SizeLaws.{bounds}
 use Rattle.machine.proofs.Readiness.{within-in as party-there}
+use Rattle.decisions.proofs.Deciding.{decided-in, told-in}
 use Rattle.machine.proofs.Roles.{not-of, quiet-finished}
-use Rattle.machine.proofs.Arms.{told-says, told-left, told-slots, told-quiet}
+use Rattle.machine.proofs.Arms.{told-says, told-left, told-slots, told-quiet, said-as}
 use Rattle.model.specs.declared.Proposer.{Proposer}
 use Rattle.model.proofs.Proposer as Pr
 use Rattle.model.proofs.Proposer.Laws as Pr′
@@ -65,9 +67,9 @@ use Rattle.sizes.proofs.Sizes.Laws as Sz′
 use Rattle.model.specs.declared.Event.{Event}
 use Rattle.model.proofs.Event as Ev
 use Rattle.model.proofs.Event.Laws as Ev′
-use Rattle.machine.specs.declared.step.Decision.{Decision}
-use Rattle.machine.proofs.step.Decision as Dn
-use Rattle.machine.proofs.step.Decision.Laws as Dn′
+use Rattle.decisions.specs.declared.arms.Decision.{Decision}
+use Rattle.decisions.proofs.arms.Decision as Dn
+use Rattle.decisions.proofs.arms.Decision.Laws as Dn′
 use Rattle.sets.specs.declared.ProposerId.{ProposerId}
 use Rattle.sets.proofs.ProposerId as Pi
 use Rattle.sets.proofs.ProposerId.Laws as Pi′
@@ -86,10 +88,10 @@ use Rattle.machine.proofs.lent.load_proposer as load-proposer
 use Rattle.machine.proofs.lent.load_proposer.Symbol as load-proposer-def
 use Rattle.machine.proofs.lent.load_proposer.Symbol.{name as #load-proposer}
 use Rattle.machine.proofs.lent.load_proposer.Met as load-proposer-thm
-use Rattle.machine.proofs.step.tell as tell
-use Rattle.machine.proofs.step.tell.Symbol as tell-def
-use Rattle.machine.proofs.step.tell.Symbol.{name as #tell}
-use Rattle.machine.proofs.step.tell.Met as tell-thm
+use Rattle.decisions.proofs.arms.tell as arms-tell
+use Rattle.decisions.proofs.arms.tell.Symbol as arms-tell-def
+use Rattle.decisions.proofs.arms.tell.Symbol.{name as #arms-tell}
+use Rattle.decisions.proofs.arms.tell.Met as arms-tell-thm
 use Rattle.machine.proofs.step.proposer_in as proposer-in
 use Rattle.machine.proofs.step.proposer_in.Symbol as proposer-in-def
 use Rattle.machine.proofs.step.proposer_in.Symbol.{name as #proposer-in}
@@ -106,10 +108,10 @@ use Rattle.machine.proofs.lent.store_message as store-message
 use Rattle.machine.proofs.lent.store_message.Symbol as store-message-def
 use Rattle.machine.proofs.lent.store_message.Symbol.{name as #store-message}
 use Rattle.machine.proofs.lent.store_message.Met as store-message-thm
-use Rattle.machine.proofs.step.reply as reply
-use Rattle.machine.proofs.step.reply.Symbol as reply-def
-use Rattle.machine.proofs.step.reply.Symbol.{name as #reply}
-use Rattle.machine.proofs.step.reply.Met as reply-thm
+use Rattle.decisions.proofs.arms.reply as arms-reply
+use Rattle.decisions.proofs.arms.reply.Symbol as arms-reply-def
+use Rattle.decisions.proofs.arms.reply.Symbol.{name as #arms-reply}
+use Rattle.decisions.proofs.arms.reply.Met as arms-reply-thm
 use Rattle.machine.proofs.step.step_told.Key.{name}
 use Rattle.machine.proofs.step.step_told as this
 use Rattle.machine.proofs.step.step_told.Statement.{statement}
@@ -169,8 +171,8 @@ module _ {M : Type 1} (𝓤 : URA M) (H : Heap 𝓤) (A : Atoms 𝓤) (mem : Mem
   abbrev Of-load-proposer : Contract 𝓤
   Of-load-proposer = tripleOf 𝓤 H A load-proposer.signature (load-proposer.spec 𝓤 H A mem run)
 
-  abbrev Of-tell : Contract 𝓤
-  Of-tell = tripleOf 𝓤 H A tell.signature (tell.spec 𝓤 H A mem run)
+  abbrev Of-arms-tell : Contract 𝓤
+  Of-arms-tell = tripleOf 𝓤 H A arms-tell.signature (arms-tell.spec 𝓤 H A mem run)
 
   abbrev Of-proposer-in : Contract 𝓤
   Of-proposer-in = tripleOf 𝓤 H A proposer-in.signature (proposer-in.spec 𝓤 H A mem run)
@@ -184,8 +186,8 @@ module _ {M : Type 1} (𝓤 : URA M) (H : Heap 𝓤) (A : Atoms 𝓤) (mem : Mem
   abbrev Of-store-message : Contract 𝓤
   Of-store-message = tripleOf 𝓤 H A store-message.signature (store-message.spec 𝓤 H A mem run)
 
-  abbrev Of-reply : Contract 𝓤
-  Of-reply = tripleOf 𝓤 H A reply.signature (reply.spec 𝓤 H A mem run)
+  abbrev Of-arms-reply : Contract 𝓤
+  Of-arms-reply = tripleOf 𝓤 H A arms-reply.signature (arms-reply.spec 𝓤 H A mem run)
 
 abbrev word : Ty
 word = tyInt w64
@@ -238,7 +240,7 @@ module _ {M : Type 1} (𝓤 : URA M) (H : Heap 𝓤) (A : Atoms 𝓤) (W : Given
   t′ = set t k m′
 
   abbrev r₀ : Answer
-  r₀ = replyOf z e f m freshLearner
+  r₀ = saidOf e f
 
   in-p : pi < length ps
   in-p = party-there i (z .proposers) (length ps) (fit .1 .0) (bounds z (fit .1 .1 .0) .some-proposers)
@@ -291,12 +293,12 @@ module _ {M : Type 1} (𝓤 : URA M) (H : Heap 𝓤) (A : Atoms 𝓤) (W : Given
   exits : Is An.the-row r₀ (valsAn r₀) → length ps′ ≡ n₀ → length t′ ≡ n₁ → ent 𝓤 (⋆ 𝓤 H A (‵ (Slice Pr.the-row κ₀ γ₀ b₀ o₀ n₀ ps′) ∷ ‵ (flft κ₀ q₀) ∷ ‵ (Slice Ms.the-row κ₁ γ₁ b₁ o₁ n₁ t′) ∷ ‵ (flft κ₁ q₁) ∷ [])) (Post (valAn r₀))
   exits is e₀ e₁ =
       qed W (‵ (Slice Pr.the-row κ₀ γ₀ b₀ o₀ n₀ ps′) ∷ ‵ (flft κ₀ q₀) ∷ ‵ (Slice Ms.the-row κ₁ γ₁ b₁ o₁ n₁ t′) ∷ ‵ (flft κ₁ q₁) ∷ []) ∵
-      suffices ! _ (ends-at 𝓤 H A this.ended stayed (this.clauses 𝓤 H A mem run) W (((κ₀, (κ₁, tt)), (q₀, (q₁, tt)), tt, (z, (listAt Pr.the-row b₀ o₀ ps γ₀, (listAt Ms.the-row b₁ o₁ t γ₁, (e, (k, (m, tt)))))), at), tt) (valAn r₀) r₀ (tt, (ps′, (t′, (tt, (tt, (tt, tt)))))) (tt, (e₀, (e₁, (tt, (tt, (tt, tt))))))) $ says ! (told-says z e k m ps t (fit .0), (told-left z e k m ps t (fit .0), told-slots z e k m ps t (fit .0))) $
+      suffices ! _ (ends-at 𝓤 H A this.ended stayed (this.clauses 𝓤 H A mem run) W (((κ₀, (κ₁, tt)), (q₀, (q₁, tt)), tt, (z, (listAt Pr.the-row b₀ o₀ ps γ₀, (listAt Ms.the-row b₁ o₁ t γ₁, (e, (k, (m, tt)))))), at), tt) (valAn r₀) r₀ (tt, (ps′, (t′, (tt, (tt, (tt, tt)))))) (tt, (e₀, (e₁, (tt, (tt, (tt, tt))))))) $ says ! (said-as z e f m freshLearner (told-quiet z e k m ps t (fit .0)) ∙ told-says z e k m ps t (fit .0), (told-left z e k m ps t (fit .0), told-slots z e k m ps t (fit .0))) $
       nothing ! $ move ! (4 ∷ 0 ∷ []) $ join ! $ move ! (2 ∷ 0 ∷ []) $ join ! $ frame ! $
       nothing ! $ owned ! Ms.the-row (Is Ms.the-row) makesMs m _ gm $ fjoin ! $ owned ! usize (Is usize) (uint-makes 𝓤 H A W w64) k _ gk $ fjoin ! $ owned ! Ev.the-row (Is Ev.the-row) makesEv e _ ge $ fjoin ! $ move ! (2 ∷ 0 ∷ []) $ fjoin ! $ move ! (1 ∷ 0 ∷ []) $ fjoin ! $
       owned ! Sz.the-row (Is Sz.the-row) makesSz z _ gz $ fjoin ! $ frame ! $ owned ! An.the-row (Is An.the-row) makesAn r₀ _ is $ done !
 
-  module _ (𝓣 : Tables 𝓤 H) (known-party-of : Triple 𝓤 (𝓣 .C #party-of) (Of-party-of 𝓤 H A mem run)) (known-proposer-at : Triple 𝓤 (𝓣 .C #proposer-at) (Of-proposer-at 𝓤 H A mem run)) (known-load-proposer : Triple 𝓤 (𝓣 .C #load-proposer) (Of-load-proposer 𝓤 H A mem run)) (known-tell : Triple 𝓤 (𝓣 .C #tell) (Of-tell 𝓤 H A mem run)) (known-proposer-in : Triple 𝓤 (𝓣 .C #proposer-in) (Of-proposer-in 𝓤 H A mem run)) (known-store-proposer : Triple 𝓤 (𝓣 .C #store-proposer) (Of-store-proposer 𝓤 H A mem run)) (known-slot-in : Triple 𝓤 (𝓣 .C #slot-in) (Of-slot-in 𝓤 H A mem run)) (known-store-message : Triple 𝓤 (𝓣 .C #store-message) (Of-store-message 𝓤 H A mem run)) (known-reply : Triple 𝓤 (𝓣 .C #reply) (Of-reply 𝓤 H A mem run)) where
+  module _ (𝓣 : Tables 𝓤 H) (known-party-of : Triple 𝓤 (𝓣 .C #party-of) (Of-party-of 𝓤 H A mem run)) (known-proposer-at : Triple 𝓤 (𝓣 .C #proposer-at) (Of-proposer-at 𝓤 H A mem run)) (known-load-proposer : Triple 𝓤 (𝓣 .C #load-proposer) (Of-load-proposer 𝓤 H A mem run)) (known-arms-tell : Triple 𝓤 (𝓣 .C #arms-tell) (Of-arms-tell 𝓤 H A mem run)) (known-proposer-in : Triple 𝓤 (𝓣 .C #proposer-in) (Of-proposer-in 𝓤 H A mem run)) (known-store-proposer : Triple 𝓤 (𝓣 .C #store-proposer) (Of-store-proposer 𝓤 H A mem run)) (known-slot-in : Triple 𝓤 (𝓣 .C #slot-in) (Of-slot-in 𝓤 H A mem run)) (known-store-message : Triple 𝓤 (𝓣 .C #store-message) (Of-store-message 𝓤 H A mem run)) (known-arms-reply : Triple 𝓤 (𝓣 .C #arms-reply) (Of-arms-reply 𝓤 H A mem run)) where
     abbrev C : Calls 𝓤 H
     C = 𝓣 .C
 
@@ -316,8 +318,8 @@ module _ {M : Type 1} (𝓤 : URA M) (H : Heap 𝓤) (A : Atoms 𝓤) (W : Given
       part-5 : (g7 : Is u64 i (uint-vals w64 i)) → (g8 : Is Pi.the-row pid (valsPi pid)) → (g9 : Is Pr.the-row q (valsPr q)) → (g10 : Is Dn.the-row f (valsDn f)) → (g11 : Is Pr.the-row (f .change .proposer) (valsPr (f .change .proposer))) → (g12 : Is Ms.the-row m′ (valsMs m′)) → (e17 : length ps′ ≡ n₀) → (e19 : length t′ ≡ n₁) → Sq W (‵ (Slice Ms.the-row κ₁ γ₁ b₁ o₁ n₁ t′) ∷ ‵ (flft κ₁ q₁) ∷ ‵ (Slice Pr.the-row κ₀ γ₀ b₀ o₀ n₀ ps′) ∷ ‵ (flft κ₀ q₀)
           ∷ ‵ (froom (sliceTy (tyRef erased mut (pointee (Ms.the-row .written)))) l₁₉ 0) ∷ ‵ (froom (tyRef erased mut (pointee (Ms.the-row .written))) l₁₈ 0) ∷ ‵ (froom (sliceTy (tyRef erased mut (pointee (Pr.the-row .written)))) l₁₇ 0) ∷ ‵ (froom (tyRef erased mut (pointee (Pr.the-row .written))) l₁₆ 0) ∷ ‵ (froom tyUnit l₁₅ 0) ∷ ‵ (froom (sliceTy (tyRef erased imm (pointee (Pr.the-row .written)))) l₁₄ 0) ∷ ‵ (froom (tyRef erased imm (pointee (Pr.the-row .written))) l₁₃ 0) ∷ ‵ (fat fullShare Ms′.mir l₁₂ 0 (valMs m′)) ∷ ‵ (fat fullShare Pr′.mir l₁₁ 0 (valPr (f .change .proposer))) ∷ ‵ (fat fullShare Dn′.mir l₁₀ 0 (valDn f)) ∷ ‵ (fat fullShare Pr′.mir l₉ 0 (valPr q)) ∷ ‵ (fat fullShare Pi′.mir l₈ 0 (valPi pid)) ∷ ‵ (fat fullShare word l₇ 0 (vint w64 i)) ∷ ‵ (fat fullShare Ms′.mir l₆ 0 (valMs m)) ∷ ‵ (fat fullShare word l₅ 0 (vint w64 k)) ∷ ‵ (fat fullShare Ev′.mir l₄ 0 (valEv e)) ∷ ‵ (fat fullShare (sliceTy (tyRef (named 1) mut (pointee (Ms.the-row .written)))) l₃ 0 s₁) ∷ ‵ (fat fullShare (sliceTy (tyRef (named 0) mut (pointee (Pr.the-row .written)))) l₂ 0 s₀) ∷ ‵ (fat fullShare Sz′.mir l₁ 0 (valSz z)) ∷ ‵ (froom An′.mir l₀ 0) ∷ Dies ∷ []) (runs C Λ En pieces.t-15 (atRet En Post))
       part-5 g7 g8 g9 g10 g11 g12 e17 e19 =
-          calls-value ! fm (reply.signature .params) An.the-row (reply.ended .kept) (reply.clauses 𝓤 H A mem run) known-reply (valsSz, (valsEv, (valsDn, (valsMs, tt)))) (makesSz, (makesEv, (makesDn, (makesMs, tt)))) valAn (EL.tells An.the-type An′.the-laws)
-          (z, (e, (f, (m, tt)))) (gz, (ge, (g10, (gm, tt)))) tt (factI 𝓤 _ (emp 𝓤) (told-quiet z e k m ps t (fit .0))) r₀ (λ r e′. id⊢ 𝓤 (fact 𝓤 (r ≡ r₀))) (and-then ! (reads ! (from ! (stop !)) (look ! 23 refl)) (and-then ! (reads ! (from ! (stop !)) (look ! 20 refl)) (and-then ! (reads ! (from ! (stop !)) (look ! 14 refl)) (and-then ! (reads ! (from ! (stop !)) (look ! 18 refl)) (no-more !))))) (λ g0.
+          calls-value ! fm (arms-reply.signature .params) An.the-row (arms-reply.ended .kept) (arms-reply.clauses 𝓤 H A mem run) known-arms-reply (valsEv, (valsDn, tt)) (makesEv, (makesDn, tt)) valAn (EL.tells An.the-type An′.the-laws)
+          (e, (f, tt)) (ge, (g10, tt)) tt (id⊢ 𝓤 (emp 𝓤)) r₀ (λ r e′. id⊢ 𝓤 (fact 𝓤 (r ≡ r₀))) (and-then ! (reads ! (from ! (stop !)) (look ! 20 refl)) (and-then ! (reads ! (from ! (stop !)) (look ! 14 refl)) (no-more !))) (λ g0.
           land ! (from ! (stop !)) (init ! 23 refl (typedAn r₀ g0)) $
           returns ! (look ! 23 refl) $ frees-all ! 4 (bare _ _ ∷ bare _ _ ∷ bare _ _ ∷ bare _ _ ∷ bare _ _ ∷ bare _ _ ∷ bare _ _ ∷ full _ _ _ ∷ full _ _ _ ∷ full _ _ _ ∷ full _ _ _ ∷ full _ _ _ ∷ full _ _ _ ∷ full _ _ _ ∷ full _ _ _ ∷ full _ _ _ ∷ full _ _ _ ∷ full _ _ _ ∷ full _ _ _ ∷ full _ _ _ ∷ []) refl refl $
           keep ! (2 ∷ 3 ∷ 0 ∷ 1 ∷ []) $ by ! (exits g0 e17 e19))
@@ -363,8 +365,8 @@ module _ {M : Type 1} (𝓤 : URA M) (H : Heap 𝓤) (A : Atoms 𝓤) (W : Given
           calls-shared ! fm Pr.the-row (plain (λ _. Pi.the-row) ∷ []) Pr.the-row (yes, tt) valPr (LL.tells Pr.the-type Pr′.the-laws) b₀ o₀ n₀ ps refl (λ ν. (valsPi, tt)) (λ ν. (makesPi, tt)) (λ ν. (pid, tt)) (λ ν. (g8, tt))
           (load-proposer.clauses 𝓤 H A mem run) known-load-proposer q (λ ν δ. tt) (λ ν δ. factI 𝓤 _ (emp 𝓤) in-p) (λ ν δ r e′. id⊢ 𝓤 (fact 𝓤 (r ≡ q))) (λ ν δ. (and-then ! (reads ! (from ! (stop !)) (look ! 12 refl)) (and-then ! (reads ! (from ! (stop !)) (look ! 18 refl)) (no-more !)))) (λ g9.
           land ! (from ! (stop !)) (init ! 14 refl (typedPr q g9)) $
-          calls-value ! fm (tell.signature .params) Dn.the-row (tell.ended .kept) (tell.clauses 𝓤 H A mem run) known-tell (valsSz, (valsEv, (valsMs, (valsPr, tt)))) (makesSz, (makesEv, (makesMs, (makesPr, tt)))) valDn (LL.tells Dn.the-type Dn′.the-laws)
-          (z, (e, (m, (q, tt)))) (gz, (ge, (gm, (g9, tt)))) tt (factI 𝓤 _ (emp 𝓤) (fit .0)) f (λ r e′. id⊢ 𝓤 (fact 𝓤 (r ≡ f))) (and-then ! (reads ! (from ! (stop !)) (look ! 23 refl)) (and-then ! (reads ! (from ! (stop !)) (look ! 20 refl)) (and-then ! (reads ! (from ! (stop !)) (look ! 18 refl)) (and-then ! (reads ! (from ! (stop !)) (look ! 15 refl)) (no-more !))))) (λ g10.
+          calls-value ! fm (arms-tell.signature .params) Dn.the-row (arms-tell.ended .kept) (arms-tell.clauses 𝓤 H A mem run) known-arms-tell (valsSz, (valsEv, (valsMs, (valsPr, tt)))) (makesSz, (makesEv, (makesMs, (makesPr, tt)))) valDn (LL.tells Dn.the-type Dn′.the-laws)
+          (z, (e, (m, (q, tt)))) (gz, (ge, (gm, (g9, tt)))) tt (id⊢ 𝓤 (emp 𝓤)) f (λ r e′. fact-mono 𝓤 (r ≡ toldIn z e m q) (r ≡ f) (λ p. p ∙ told-in z e m q (fit .1 .1 .0) (fit .0))) (and-then ! (reads ! (from ! (stop !)) (look ! 23 refl)) (and-then ! (reads ! (from ! (stop !)) (look ! 20 refl)) (and-then ! (reads ! (from ! (stop !)) (look ! 18 refl)) (and-then ! (reads ! (from ! (stop !)) (look ! 15 refl)) (no-more !))))) (λ g10.
           land ! (from ! (stop !)) (init ! 13 refl (typedDn f g10)) $
           forget ! 10 refl $
           forget ! 9 refl $
@@ -390,11 +392,11 @@ module _ {M : Type 1} (𝓤 : URA M) (H : Heap 𝓤) (A : Atoms 𝓤) (W : Given
         move ! (25 ∷ []) $ split ! $ move ! (1 ∷ []) $ split ! $
         keep ! (5 ∷ 2 ∷ 3 ∷ 0 ∷ 8 ∷ 9 ∷ 10 ∷ 11 ∷ 12 ∷ 13 ∷ 14 ∷ 15 ∷ 16 ∷ 17 ∷ 18 ∷ 19 ∷ 20 ∷ 21 ∷ 22 ∷ 23 ∷ 24 ∷ 25 ∷ 26 ∷ 27 ∷ 7 ∷ []) $ part-1 l₀ l₁ l₂ l₃ l₄ l₅ l₆ l₇ l₈ l₉ l₁₀ l₁₁ l₁₂ l₁₃ l₁₄ l₁₅ l₁₆ l₁₇ l₁₈ l₁₉))))))))))))))))))))
 
-module _ {M : Type 1} (𝓤 : URA M) (H : Heap 𝓤) (A : Atoms 𝓤) (W : Given 𝓤 H A) (mem : Memory → SProp 𝓤) (run : Routine → Fun 𝓤) (𝓣 : Tables 𝓤 H) (known-party-of : Triple 𝓤 (𝓣 .C #party-of) (Of-party-of 𝓤 H A mem run)) (known-proposer-at : Triple 𝓤 (𝓣 .C #proposer-at) (Of-proposer-at 𝓤 H A mem run)) (known-load-proposer : Triple 𝓤 (𝓣 .C #load-proposer) (Of-load-proposer 𝓤 H A mem run)) (known-tell : Triple 𝓤 (𝓣 .C #tell) (Of-tell 𝓤 H A mem run)) (known-proposer-in : Triple 𝓤 (𝓣 .C #proposer-in) (Of-proposer-in 𝓤 H A mem run)) (known-store-proposer : Triple 𝓤 (𝓣 .C #store-proposer) (Of-store-proposer 𝓤 H A mem run)) (known-slot-in : Triple 𝓤 (𝓣 .C #slot-in) (Of-slot-in 𝓤 H A mem run)) (known-store-message : Triple 𝓤 (𝓣 .C #store-message) (Of-store-message 𝓤 H A mem run)) (known-reply : Triple 𝓤 (𝓣 .C #reply) (Of-reply 𝓤 H A mem run)) where
+module _ {M : Type 1} (𝓤 : URA M) (H : Heap 𝓤) (A : Atoms 𝓤) (W : Given 𝓤 H A) (mem : Memory → SProp 𝓤) (run : Routine → Fun 𝓤) (𝓣 : Tables 𝓤 H) (known-party-of : Triple 𝓤 (𝓣 .C #party-of) (Of-party-of 𝓤 H A mem run)) (known-proposer-at : Triple 𝓤 (𝓣 .C #proposer-at) (Of-proposer-at 𝓤 H A mem run)) (known-load-proposer : Triple 𝓤 (𝓣 .C #load-proposer) (Of-load-proposer 𝓤 H A mem run)) (known-arms-tell : Triple 𝓤 (𝓣 .C #arms-tell) (Of-arms-tell 𝓤 H A mem run)) (known-proposer-in : Triple 𝓤 (𝓣 .C #proposer-in) (Of-proposer-in 𝓤 H A mem run)) (known-store-proposer : Triple 𝓤 (𝓣 .C #store-proposer) (Of-store-proposer 𝓤 H A mem run)) (known-slot-in : Triple 𝓤 (𝓣 .C #slot-in) (Of-slot-in 𝓤 H A mem run)) (known-store-message : Triple 𝓤 (𝓣 .C #store-message) (Of-store-message 𝓤 H A mem run)) (known-arms-reply : Triple 𝓤 (𝓣 .C #arms-reply) (Of-arms-reply 𝓤 H A mem run)) where
   f-walks : Walks 𝓤 H A this.ended stayed (WpFn 𝓤 H (𝓣 .C) (𝓣 .Λ) code.function) (this.clauses 𝓤 H A mem run)
   f-walks = walked 𝓤 H A this.ended stayed (this.clauses 𝓤 H A mem run) (WpFn 𝓤 H (𝓣 .C) (𝓣 .Λ) code.function) (λ κs. (valsSz, (slice-vals, (slice-vals, (valsEv, (uint-vals w64, (valsMs, tt)))))))
       (λ κs. (LL.tells Sz.the-type Sz′.the-laws, (mut-slice-tells (named 0) (κs .0) Pr.the-row, (mut-slice-tells (named 1) (κs .1 .0) Ms.the-row, (LL.tells Ev.the-type Ev′.the-laws, (uint-tells w64, (LL.tells Ms.the-type Ms′.the-laws, tt)))))))
-      (λ κs qs bounds a g are. needs 𝓤 (OfTold (a .0) (a .1 .0 .now) (a .1 .1 .0 .now) (a .1 .1 .1 .0) (a .1 .1 .1 .1 .0) (a .1 .1 .1 .1 .1 .0)) _ (λ fit. walk 𝓤 H A W mem run (κs .0) (qs .0) (a .1 .0 .ptr .0) (a .1 .0 .ptr .1) (a .1 .0 .name) (κs .1 .0) (qs .1 .0) (a .1 .1 .0 .ptr .0) (a .1 .1 .0 .ptr .1) (a .1 .1 .0 .name) (a .0) (a .1 .0 .now) (a .1 .1 .0 .now) (a .1 .1 .1 .0) (a .1 .1 .1 .1 .0) (a .1 .1 .1 .1 .1 .0) (are .0) (are .1 .0 .0 .1) (are .1 .1 .0 .0 .1) (are .1 .1 .1 .0) (are .1 .1 .1 .1 .0) (are .1 .1 .1 .1 .1 .0) fit 𝓣 known-party-of known-proposer-at known-load-proposer known-tell known-proposer-in known-store-proposer known-slot-in known-store-message known-reply))
+      (λ κs qs bounds a g are. needs 𝓤 (OfTold (a .0) (a .1 .0 .now) (a .1 .1 .0 .now) (a .1 .1 .1 .0) (a .1 .1 .1 .1 .0) (a .1 .1 .1 .1 .1 .0)) _ (λ fit. walk 𝓤 H A W mem run (κs .0) (qs .0) (a .1 .0 .ptr .0) (a .1 .0 .ptr .1) (a .1 .0 .name) (κs .1 .0) (qs .1 .0) (a .1 .1 .0 .ptr .0) (a .1 .1 .0 .ptr .1) (a .1 .1 .0 .name) (a .0) (a .1 .0 .now) (a .1 .1 .0 .now) (a .1 .1 .1 .0) (a .1 .1 .1 .1 .0) (a .1 .1 .1 .1 .1 .0) (are .0) (are .1 .0 .0 .1) (are .1 .1 .0 .0 .1) (are .1 .1 .1 .0) (are .1 .1 .1 .1 .0) (are .1 .1 .1 .1 .1 .0) fit 𝓣 known-party-of known-proposer-at known-load-proposer known-arms-tell known-proposer-in known-store-proposer known-slot-in known-store-message known-arms-reply))
 
   f-meets : Meets 𝓤 H A this.signature (WpFn 𝓤 H (𝓣 .C) (𝓣 .Λ) code.function) (this.spec 𝓤 H A mem run)
   f-meets = walk-meets 𝓤 H A this.ended stayed W (goes-none 𝓤 H A W 2 (λ _. Sz.the-row) yes (λ κs x f. refl), (goes-slice 𝓤 H A W 2 0 tt (plain (λ _. Pr.the-row)), (goes-slice 𝓤 H A W 2 1 tt (plain (λ _. Ms.the-row)), (goes-none 𝓤 H A W 2 (λ _. Ev.the-row) yes (λ κs x f. refl), (goes-none 𝓤 H A W 2 (λ _. usize) yes (λ κs x f. refl), (goes-none 𝓤 H A W 2 (λ _. Ms.the-row) yes (λ κs x f. refl), tt))))))
@@ -408,9 +410,9 @@ step-told-spec 𝓤 H 𝓜 𝓖 𝓡 =
     (cited 𝓤 H (Of-party-of 𝓤 H (𝓖 .A) (𝓜 .mem) (𝓡 .run)) 𝓜 𝓡 code.env #party-of party-of-def.routine code.calls-machine·step·party-of (party-of-thm.met 𝓤 H 𝓜 𝓖 𝓡))
     (cited 𝓤 H (Of-proposer-at 𝓤 H (𝓖 .A) (𝓜 .mem) (𝓡 .run)) 𝓜 𝓡 code.env #proposer-at proposer-at-def.routine code.calls-machine·step·proposer-at (proposer-at-thm.met 𝓤 H 𝓜 𝓖 𝓡))
     (cited 𝓤 H (Of-load-proposer 𝓤 H (𝓖 .A) (𝓜 .mem) (𝓡 .run)) 𝓜 𝓡 code.env #load-proposer load-proposer-def.routine code.calls-machine·lent·load-proposer (load-proposer-thm.met 𝓤 H 𝓜 𝓖 𝓡))
-    (cited 𝓤 H (Of-tell 𝓤 H (𝓖 .A) (𝓜 .mem) (𝓡 .run)) 𝓜 𝓡 code.env #tell tell-def.routine code.calls-machine·step·tell (tell-thm.met 𝓤 H 𝓜 𝓖 𝓡))
+    (cited 𝓤 H (Of-arms-tell 𝓤 H (𝓖 .A) (𝓜 .mem) (𝓡 .run)) 𝓜 𝓡 code.env #arms-tell arms-tell-def.routine code.calls-decisions·arms·tell (arms-tell-thm.met 𝓤 H 𝓜 𝓖 𝓡))
     (cited 𝓤 H (Of-proposer-in 𝓤 H (𝓖 .A) (𝓜 .mem) (𝓡 .run)) 𝓜 𝓡 code.env #proposer-in proposer-in-def.routine code.calls-machine·step·proposer-in (proposer-in-thm.met 𝓤 H 𝓜 𝓖 𝓡))
     (cited 𝓤 H (Of-store-proposer 𝓤 H (𝓖 .A) (𝓜 .mem) (𝓡 .run)) 𝓜 𝓡 code.env #store-proposer store-proposer-def.routine code.calls-machine·lent·store-proposer (store-proposer-thm.met 𝓤 H 𝓜 𝓖 𝓡))
     (cited 𝓤 H (Of-slot-in 𝓤 H (𝓖 .A) (𝓜 .mem) (𝓡 .run)) 𝓜 𝓡 code.env #slot-in slot-in-def.routine code.calls-machine·step·slot-in (slot-in-thm.met 𝓤 H 𝓜 𝓖 𝓡))
     (cited 𝓤 H (Of-store-message 𝓤 H (𝓖 .A) (𝓜 .mem) (𝓡 .run)) 𝓜 𝓡 code.env #store-message store-message-def.routine code.calls-machine·lent·store-message (store-message-thm.met 𝓤 H 𝓜 𝓖 𝓡))
-    (cited 𝓤 H (Of-reply 𝓤 H (𝓖 .A) (𝓜 .mem) (𝓡 .run)) 𝓜 𝓡 code.env #reply reply-def.routine code.calls-machine·step·reply (reply-thm.met 𝓤 H 𝓜 𝓖 𝓡)))
+    (cited 𝓤 H (Of-arms-reply 𝓤 H (𝓖 .A) (𝓜 .mem) (𝓡 .run)) 𝓜 𝓡 code.env #arms-reply arms-reply-def.routine code.calls-decisions·arms·reply (arms-reply-thm.met 𝓤 H 𝓜 𝓖 𝓡)))

@@ -9,7 +9,7 @@ use lib.Seq.{sets, sets-eq}
 use mir.Val.{boolByte}
 use borrow.Author.Tests.{ltb-true, leb-true, eqb-true, not-true, not-false}
 use Rattle.choice.specs.Choice.{if_then_else_}
-use Rattle.sets.specs.Scans.{firstWord}
+use Rattle.sets.specs.Scans.{mostScans, firstWord}
 use Rattle.sets.specs.declared.scans.Scans.{Scans}
 use Rattle.sizes.specs.Sizes.{sizesInRange}
 use Rattle.sizes.proofs.SizeLaws.{bounds}
@@ -72,12 +72,16 @@ proposer-whole a s bytes p e = put-whole bytes (proposerBytes p) (proposer-lengt
 
 -- ---- the arguments of what passed its tests
 
--- a run has at most 8 proposers and 7 acceptors
+-- a run has at most 8 proposers, 7 acceptors and as many scans as a set can hold
 pub few-proposers : (p a s : ℕ) → sizesInRange (sizesOf p a s) ≡ true → p ≤ 8
 few-proposers p a s e = bounds (sizesOf p a s) e .few-proposers
 
 pub few-acceptors : (p a s : ℕ) → sizesInRange (sizesOf p a s) ≡ true → a ≤ 7
 few-acceptors p a s e = bounds (sizesOf p a s) e .few-acceptors
+
+pub few-scans : (p a s : ℕ) → sizesInRange (sizesOf p a s) ≡ true → s ≤ mostScans
+unfolding mostScans
+few-scans p a s e = bounds (sizesOf p a s) e .few-scans
 
 pub proposer-sizes : (a s : ℕ) (bytes : List ℕ) → isProposer a s bytes ≡ true → sizesInRange (sizesOf 1 a s) ≡ true
 unfolding isProposer

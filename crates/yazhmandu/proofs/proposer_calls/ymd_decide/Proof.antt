@@ -1,8 +1,9 @@
 use mathlib.Core.Path.{ap, _∙_}
 use native.Mathlib.Omega.{arith}
 use borrow.Author.Needs.{needs}
+use Rattle.sets.specs.Scans.{mostScans}
 use Rattle.model.specs.Rules.{decideNo, deciding, afterDecide}
-use Rattle.layouts.proofs.Parts.{passed, failed, proposer-sizes, few-acceptors}
+use Rattle.layouts.proofs.Parts.{passed, failed, proposer-sizes, few-acceptors, few-scans}
 use Rattle.yazhmandu.proofs.RuleCalls.{call-refused, rule-refused, rule-done}
 use Rattle.yazhmandu.proofs.proposer_calls.ymd_decide.Statement.{statement}
 use Rattle.yazhmandu.proofs.proposer_calls.ymd_decide.Tie as tie
@@ -20,10 +21,11 @@ proposer-at-requires : tie.Need-proposer-at-requires
 proposer-at-requires c κs = search needs
 
 cast-decide-no : tie.Need-cast-decide-no
+unfolding mostScans
 cast-decide-no c =
     let t₁ = c .before .before in
     let e = proposer-sizes _ _ _ (passed (t₁ .before .is-proposer .ensures) (t₁ .if1 .left)) in
-    omega (arith, few-acceptors _ _ _ e)
+    omega (arith, few-acceptors _ _ _ e, few-scans _ _ _ e)
 
 decide-no-requires : tie.Need-decide-no-requires
 decide-no-requires c κs = search needs
@@ -40,10 +42,11 @@ returns-2 c =
     (c .if2 .taken)
 
 cast-decide : tie.Need-cast-decide
+unfolding mostScans
 cast-decide c =
     let t₁ = c .before .before .before .before .before in
     let e = proposer-sizes _ _ _ (passed (t₁ .before .is-proposer .ensures) (t₁ .if1 .left)) in
-    omega (arith, few-acceptors _ _ _ e)
+    omega (arith, few-acceptors _ _ _ e, few-scans _ _ _ e)
 
 decide-requires : tie.Need-decide-requires
 decide-requires c κs = search needs

@@ -1,8 +1,9 @@
 use mathlib.Core.Path.{ap, _∙_}
 use native.Mathlib.Omega.{arith}
 use borrow.Author.Needs.{needs}
+use Rattle.sets.specs.Scans.{mostScans}
 use Rattle.model.specs.Rules.{refineNo, refining, afterRefine}
-use Rattle.layouts.proofs.Parts.{passed, failed, proposer-sizes, few-acceptors}
+use Rattle.layouts.proofs.Parts.{passed, failed, proposer-sizes, few-acceptors, few-scans}
 use Rattle.yazhmandu.proofs.RuleCalls.{call-refused, rule-refused, rule-done}
 use Rattle.yazhmandu.proofs.proposer_calls.ymd_refine.Statement.{statement}
 use Rattle.yazhmandu.proofs.proposer_calls.ymd_refine.Tie as tie
@@ -20,10 +21,11 @@ proposer-at-requires : tie.Need-proposer-at-requires
 proposer-at-requires c κs = search needs
 
 cast-refine-no : tie.Need-cast-refine-no
+unfolding mostScans
 cast-refine-no c =
     let t₁ = c .before .before in
     let e = proposer-sizes _ _ _ (passed (t₁ .before .is-proposer .ensures) (t₁ .if1 .left)) in
-    omega (arith, few-acceptors _ _ _ e)
+    omega (arith, few-acceptors _ _ _ e, few-scans _ _ _ e)
 
 refine-no-requires : tie.Need-refine-no-requires
 refine-no-requires c κs = search needs
@@ -40,10 +42,11 @@ returns-2 c =
     (c .if2 .taken)
 
 cast-refine : tie.Need-cast-refine
+unfolding mostScans
 cast-refine c =
     let t₁ = c .before .before .before .before .before in
     let e = proposer-sizes _ _ _ (passed (t₁ .before .is-proposer .ensures) (t₁ .if1 .left)) in
-    omega (arith, few-acceptors _ _ _ e)
+    omega (arith, few-acceptors _ _ _ e, few-scans _ _ _ e)
 
 refine-requires : tie.Need-refine-requires
 refine-requires c κs = search needs

@@ -16,8 +16,8 @@ use Rattle.model.specs.declared.Acceptor.{Acceptor}
 use Rattle.model.specs.declared.Heard.{Heard}
 use Rattle.model.specs.declared.Learner.{Learner}
 use Rattle.model.specs.declared.Message.{Message}
-use Rattle.model.specs.Records.{freshProposer, freshAcceptor, freshLearner, unheard}
-use Rattle.model.specs.Rules.{accepts, answering, hearing, learns, newlyHeard, listening}
+use Rattle.model.specs.Records.{freshProposer, freshAcceptor, freshLearner, unheard, heardOf}
+use Rattle.model.specs.Rules.{accepts, answering, Rank, higher, equal, lower, rankOf, hearingOf, hearing, learns, newlyHeard, listening}
 use Rattle.model.specs.Ranges.{acceptorInRange}
 use Rattle.model.specs.Table.{Announcement}
 use Rattle.model.specs.Network.{Worn}
@@ -74,10 +74,16 @@ module _ (s : ℕ) (kept set : List ℕ) (o : proposalNo s kept set ≡ 0) where
 
 -- ---- a learner
 
+-- what is heard depends on these fields alone
+hearing-fields : (h : Heard) (m : Message) (r : Rank) → hearingOf h (Announcement (m .proposer .0) (m .acceptor .0) (m .number) (m .set) 0) r ≡ hearingOf h m r
+hearing-fields h m higher = refl
+hearing-fields h m equal = refl
+hearing-fields h m lower = refl
+
 -- a learner reads four fields of a message
 pub listening-fields : (a : ℕ) (l : Learner) (m : Message) → listening a l (Announcement (m .proposer .0) (m .acceptor .0) (m .number) (m .set) 0) ≡ listening a l m
 unfolding listening learns hearing
-listening-fields a l m = refl
+listening-fields a l m = let h = heardOf l (m .proposer .0) in rw (hearing-fields h m (rankOf h m))
 
 own-places : (hs ks : List Heard) (p i : ℕ) (h : Heard) → length hs ≡ p → i < p → take p (set (hs ++ ks) i h) ++ ks ≡ set (hs ++ ks) i h
 own-places hs ks p i h e b =

@@ -51,7 +51,7 @@ f = arm('learner', ('Learner', 'ls'),
     locals=['u64', 'LearnerId', 'ProposerId', 'Ear', 'Listened', 'Ear', 'Message', ('Learner', 'imm'), 'unit', ('Learner', 'mut'), ('Message', 'mut')],
     temporaries=14,
     definitions=[
-        ('i', 'ℕ', 'partyOf e m'), ('li', 'ℕ', 'within i (z .learners)'), ('lid', 'LearnerId', 'record { 0 = li }'), ('l', 'Learner', 'getD ls li freshLearner'), ('x', 'Ear', 'earOf l (m .proposer .0)'), ('y', 'Listened', 'listenOf z e m x'),
+        ('i', 'ℕ', 'partyOf e m'), ('li', 'ℕ', 'indexIn i (z .learners)'), ('lid', 'LearnerId', 'record { 0 = li }'), ('l', 'Learner', 'getD ls li freshLearner'), ('x', 'Ear', 'earOf l (m .proposer .0)'), ('y', 'Listened', 'listenOf z e m x'),
         ('ls′', 'List Learner', 'set ls li (putEar l (m .proposer .0) (y .ear))'), ('t′', 'List Message', 'set t k (slotAfter (y .frees) m)'), ('r₀', 'Answer', 'y .answer')],
     facts=[('in-l', 'li < length ls', 'party-there i (z .learners) (length ls) (fit .1 .0) (bounds z (fit .1 .1 .0) .some-learners)'), ('in-k', 'k < length t', 'fit .1 .1 .1 .0')],
     after=['ls′', 't′'], says='(ear-says z e k m ls t (fit .0), (ear-left z e k m ls t (fit .0), ear-slots z e k m ls t (fit .0)))',
@@ -59,7 +59,7 @@ f = arm('learner', ('Learner', 'ls'),
 use Rattle.model.specs.Records.{freshLearner}
 use Rattle.decisions.specs.Change.{slotAfter}
 use Rattle.decisions.specs.Arms.{listenOf, heardIn}
-use Rattle.machine.specs.Stepping.{within, partyOf}
+use Rattle.machine.specs.Stepping.{indexIn, partyOf}
 use Rattle.machine.specs.Roles.{earOf, putEar, OfLearner}
 ''', '''use Rattle.sizes.proofs.SizeLaws.{bounds}
 use Rattle.machine.proofs.Readiness.{within-in as party-there}
@@ -91,7 +91,7 @@ use Rattle.decisions.specs.Sending.{itemsOf, lacking}
 use Rattle.decisions.specs.Change.{slotAfter}
 use Rattle.machine.specs.Slots.{Ready}
 use Rattle.decisions.specs.Arms.{armOf, decideOf, finishOf, decidedIn, toldIn, saidOf}
-use Rattle.machine.specs.Stepping.{within, partyOf}
+use Rattle.machine.specs.Stepping.{indexIn, partyOf}
 use Rattle.machine.specs.Roles.{proposerAt, acceptorAt, decisionAt, finishedAt, stepAt, %s}
 use Rattle.model.specs.Records.{freshProposer, freshAcceptor, freshLearner}
 '''
@@ -117,7 +117,7 @@ def left(lists):
 f = arm('told', ('Proposer', 'ps'),
     locals=['u64', 'ProposerId', 'Proposer', 'Decision', 'Proposer', 'Message', ('Proposer', 'imm'), 'unit', ('Proposer', 'mut'), ('Message', 'mut')],
     temporaries=13,
-    definitions=[('i', 'ℕ', 'partyOf e m'), ('pi', 'ℕ', 'within i (z .proposers)'), ('pid', 'ProposerId', 'record { 0 = pi }'), ('q', 'Proposer', 'getD ps pi freshProposer'), ('f', 'Decision', 'finishOf (decideOf z e m q freshAcceptor freshLearner) 0 q freshAcceptor'),
+    definitions=[('i', 'ℕ', 'partyOf e m'), ('pi', 'ℕ', 'indexIn i (z .proposers)'), ('pid', 'ProposerId', 'record { 0 = pi }'), ('q', 'Proposer', 'getD ps pi freshProposer'), ('f', 'Decision', 'finishOf (decideOf z e m q freshAcceptor freshLearner) 0 q freshAcceptor'),
         ('m′', 'Message', 'slotAfter (f .change .frees) m'), ('ps′', 'List Proposer', 'set ps pi (f .change .proposer)'), ('t′', 'List Message', 'set t k m′'), ('r₀', 'Answer', 'saidOf e f')],
     facts=[('in-p', 'pi < length ps', 'party-there i (z .proposers) (length ps) (fit .1 .0) (bounds z (fit .1 .1 .0) .some-proposers)'), ('in-k', 'k < length t', 'fit .1 .1 .1 .0')],
     after=['ps′', 't′'], says='(said-as z e f m freshLearner (told-quiet z e k m ps t (fit .0)) ∙ told-says z e k m ps t (fit .0), (told-left z e k m ps t (fit .0), told-slots z e k m ps t (fit .0)))',
@@ -147,7 +147,7 @@ def party(name, number, struct, short, slice, lists, at, records):
     f = arm(name, (struct, slice),
         locals=['u64', struct + 'Id', struct, 'Decision', 'u8', 'u8', 'Decision', struct, 'Message', 'Send', (struct, 'imm'), ('Message', 'imm'), 'unit', (struct, 'mut'), ('Message', 'mut'), ('Message', 'mut')],
         temporaries=17,
-        definitions=[('i', 'ℕ', 'partyOf e m'), ('p', 'ℕ', 'within i (z .%ss)' % own), ('id', struct + 'Id', 'record { 0 = p }'), (short, struct, '%s z e k m %s t' % (at, lists))] + finished(lists) + left(lists)
+        definitions=[('i', 'ℕ', 'partyOf e m'), ('p', 'ℕ', 'indexIn i (z .%ss)' % own), ('id', struct + 'Id', 'record { 0 = p }'), (short, struct, '%s z e k m %s t' % (at, lists))] + finished(lists) + left(lists)
         + [('own′', 'List ' + struct, 'set %s p (f .change .%s)' % (slice, own)), ('t′', 'List Message', 'post (itemsOf (f .change .send)) t₁'), ('r₀', 'Answer', 'saidOf e f')],
         facts=[('in-p', 'p < length ' + slice, 'party-there i (z .%ss) (length %s) (fit .1 .0) (bounds z (fit .1 .1 .0) .some-%ss)' % (own, slice, own)), ('in-k', 'k < length t', 'fit .1 .1 .1 .0'),
             ('ready', 'Ready (f .change .send) t₁', 'ready-at z e k m %s t in-k (fit .1 .1 .1 .1)' % lists)],

@@ -89,10 +89,10 @@ f = Function(
     ending=('(r : Left) → r ≡ stepOf %s → ' % six, 'r same'),
     says=tupled(['ap (λ (w : Left). w .%s) same' % x for x in ['answer'] + FIELDS]),
     definitions=[
-        ('k', 'ℕ', 'within (e .a) (z .slots)'), ('m', 'Message', 'theMessage ' + six), ('n', 'ℕ', 'armOf e m'),
+        ('k', 'ℕ', 'indexIn (e .a) (z .slots)'), ('m', 'Message', 'theMessage ' + six), ('n', 'ℕ', 'armOf e m'),
         ('byLearner', 'Left', at('[] [] ls')), ('byProposer', 'Left', at('ps [] []')), ('byAcceptor', 'Left', at('[] acs []')), ('byTable', 'Left', at('[] [] []'))],
     facts=[('in-k', 'k < length t', 'slot-there z ps acs ls t fit (e .a)')],
-    uses=('''use Rattle.machine.specs.Stepping.{within, theMessage, Left, stepOf, Fits}
+    uses=('''use Rattle.machine.specs.Stepping.{indexIn, theMessage, Left, stepOf, Fits}
 use Rattle.machine.specs.Roles.{stepAt}
 use Rattle.decisions.specs.Arms.{armOf}
 ''', '''use Rattle.machine.proofs.Readiness.{slot-there}

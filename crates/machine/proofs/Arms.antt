@@ -28,7 +28,7 @@ use Rattle.decisions.proofs.Items.{items-silence}
 use Rattle.decisions.proofs.Deciding.{told-change, needs-none, says-as}
 use Rattle.decisions.specs.declared.arms.Decision.{Decision}
 use Rattle.machine.specs.Slots.{Ready}
-use Rattle.machine.specs.Stepping.{within, partyOf, replyOf}
+use Rattle.machine.specs.Stepping.{indexIn, partyOf, replyOf}
 use Rattle.machine.specs.Roles.{proposerAt, acceptorAt, learnerAt, decisionAt, finishedAt, stepAt}
 use Rattle.machine.proofs.Readiness.{ready-after}
 use Rattle.machine.proofs.Roles.{not-of, quiet-finished}
@@ -88,8 +88,8 @@ module _ (z : Sizes) (e : Event) (k : ℕ) (m : Message) (ps : List Proposer) (t
   pub told-says : replyOf z e f m freshLearner ≡ stepAt z e k m ps [] [] t .answer
   told-says = ap (λ (g : Decision). replyOf z e g m freshLearner) as-finished
 
-  pub told-left : set ps (within (partyOf e m) (z .proposers)) (f .change .proposer) ≡ stepAt z e k m ps [] [] t .proposers
-  told-left = ap (λ (g : Decision). set ps (within (partyOf e m) (z .proposers)) (g .change .proposer)) as-finished
+  pub told-left : set ps (indexIn (partyOf e m) (z .proposers)) (f .change .proposer) ≡ stepAt z e k m ps [] [] t .proposers
+  told-left = ap (λ (g : Decision). set ps (indexIn (partyOf e m) (z .proposers)) (g .change .proposer)) as-finished
 
   pub told-slots : set t k (slotAfter (f .change .frees) m) ≡ stepAt z e k m ps [] [] t .slots
   unfolding post

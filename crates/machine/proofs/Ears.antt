@@ -29,7 +29,7 @@ use Rattle.decisions.specs.Change.{heardBy, stopping, deliveringOf, crashingOf,
 use Rattle.decisions.specs.Refusals.{testNo}
 use Rattle.decisions.proofs.Items.{items-silence}
 use Rattle.decisions.specs.declared.arms.Decision.{Decision}
-use Rattle.machine.specs.Stepping.{within, partyOf, replyOf}
+use Rattle.machine.specs.Stepping.{indexIn, partyOf, replyOf}
 use Rattle.decisions.specs.Arms.{needOf, decideOf, refusedOf, finishOf}
 use Rattle.machine.proofs.Readiness.{same}
 use Rattle.decisions.specs.declared.arms.Ear.{Ear}
@@ -163,7 +163,7 @@ module _ (z : Sizes) (a : ℕ) (m : Message) (l : Learner) (q : Proposer) (c : A
 
 module _ (z : Sizes) (e : Event) (k : ℕ) (m : Message) (ls : List Learner) (t : List Message) (h : Holds (eqb (armOf e m) 3)) where
   abbrev l′ : Learner
-  l′ = getD ls (within (partyOf e m) (z .learners)) freshLearner
+  l′ = getD ls (indexIn (partyOf e m) (z .learners)) freshLearner
 
   abbrev code : Code
   code = codeOf (e .code)
@@ -189,9 +189,9 @@ module _ (z : Sizes) (e : Event) (k : ℕ) (m : Message) (ls : List Learner) (t 
   unfolding listenOf replyOf
   ear-says = ear-answer z (e .a) m l′ freshProposer freshAcceptor n′ (eqb n′ 0) refl code h ∙ ap (λ (g : Decision). replyOf z e g m l′) (sym finished-as)
 
-  pub ear-left : set ls (within (partyOf e m) (z .learners)) (putEar l′ (m .proposer .0) (listenOf z e m (earOf l′ (m .proposer .0)) .ear)) ≡ stepAt z e k m [] [] ls t .learners
+  pub ear-left : set ls (indexIn (partyOf e m) (z .learners)) (putEar l′ (m .proposer .0) (listenOf z e m (earOf l′ (m .proposer .0)) .ear)) ≡ stepAt z e k m [] [] ls t .learners
   unfolding listenOf
-  ear-left = ap (set ls (within (partyOf e m) (z .learners))) (ear-learner z (e .a) m l′ freshProposer freshAcceptor n′ (eqb n′ 0) code h ∙ ap (λ (g : Decision). learnerAfter z (g .change .hears) (g .change .stops) m l′) (sym finished-as))
+  ear-left = ap (set ls (indexIn (partyOf e m) (z .learners))) (ear-learner z (e .a) m l′ freshProposer freshAcceptor n′ (eqb n′ 0) code h ∙ ap (λ (g : Decision). learnerAfter z (g .change .hears) (g .change .stops) m l′) (sym finished-as))
 
   pub ear-slots : set t k (slotAfter (listenOf z e m (earOf l′ (m .proposer .0)) .frees) m) ≡ stepAt z e k m [] [] ls t .slots
   unfolding listenOf post

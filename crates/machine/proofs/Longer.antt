@@ -30,7 +30,7 @@ use Rattle.model.proofs.InRange.{run-in-range}
 use Rattle.decisions.specs.Sending.{isTaken, itemsOf}
 use Rattle.decisions.specs.Change.{learnerAfter, slotAfter}
 use Rattle.decisions.specs.declared.arms.Decision.{Decision}
-use Rattle.machine.specs.Stepping.{within, partyOf, replyOf, Fits, Left, theMessage, stepOf}
+use Rattle.machine.specs.Stepping.{indexIn, partyOf, replyOf, Fits, Left, theMessage, stepOf}
 use Rattle.decisions.specs.Arms.{decideOf, finishOf}
 use Rattle.machine.specs.Running.{noted, Ran, onward, ranTo, driven, Drives}
 use Rattle.machine.specs.Calls.{eventOf, eventsIn, logged, hasNumbers, wholeRunNo, logAfterWholeRun}
@@ -86,17 +86,17 @@ module _ (z : Sizes) (e : Event) where
   abbrev stepBy : Message → Proposer → Acceptor → Learner → ℕ → List Proposer → List Acceptor → List Learner → List Message → Left
   stepBy m q c l n ps acs ls t = record {
     answer = replyOf z e (finishedBy z e m q c l n) m l;
-    proposers = set ps (within (partyOf e m) (z .proposers)) (finishedBy z e m q c l n .change .proposer);
-    acceptors = set acs (within (partyOf e m) (z .acceptors)) (finishedBy z e m q c l n .change .acceptor);
-    learners = set ls (within (partyOf e m) (z .learners)) (learnerAfter z (finishedBy z e m q c l n .change .hears) (finishedBy z e m q c l n .change .stops) m l);
-    slots = post (itemsOf (finishedBy z e m q c l n .change .send)) (set t (within (e .a) (z .slots)) (slotAfter (finishedBy z e m q c l n .change .frees) m));
+    proposers = set ps (indexIn (partyOf e m) (z .proposers)) (finishedBy z e m q c l n .change .proposer);
+    acceptors = set acs (indexIn (partyOf e m) (z .acceptors)) (finishedBy z e m q c l n .change .acceptor);
+    learners = set ls (indexIn (partyOf e m) (z .learners)) (learnerAfter z (finishedBy z e m q c l n .change .hears) (finishedBy z e m q c l n .change .stops) m l);
+    slots = post (itemsOf (finishedBy z e m q c l n .change .send)) (set t (indexIn (e .a) (z .slots)) (slotAfter (finishedBy z e m q c l n .change .frees) m));
   }
 
   -- the step where this message is found
   abbrev stepAt : Message → List Proposer → List Acceptor → List Learner → List Message → Left
   stepAt m ps acs ls t =
-      stepBy m (getD ps (within (partyOf e m) (z .proposers)) freshProposer) (getD acs (within (partyOf e m) (z .acceptors)) freshAcceptor)
-      (getD ls (within (partyOf e m) (z .learners)) freshLearner) (freeSlots t) ps acs ls t
+      stepBy m (getD ps (indexIn (partyOf e m) (z .proposers)) freshProposer) (getD acs (indexIn (partyOf e m) (z .acceptors)) freshAcceptor)
+      (getD ls (indexIn (partyOf e m) (z .learners)) freshLearner) (freeSlots t) ps acs ls t
 
 -- more records and slots behind those that a step leaves
 abbrev pub withMore : Left → List Proposer → List Acceptor → List Learner → List Message → Left
@@ -115,26 +115,26 @@ module _ (z : Sizes) (ps′ : List Proposer) (acs′ : List Acceptor) (ls′ : L
         → stepBy z e m q c l n (ps ++ ps′) (acs ++ acs′) (ls ++ ls′) (t ++ t′) ≡ withMore (stepBy z e m q c l n ps acs ls t) ps′ acs′ ls′ t′
     by-longer m q c l n = λ i. record {
       answer = replyOf z e (finishedBy z e m q c l n) m l;
-      proposers = set-append-left ps ps′ (within (partyOf e m) (z .proposers)) (finishedBy z e m q c l n .change .proposer) (proposer-there z ps acs ls t fit (partyOf e m)) i;
-      acceptors = set-append-left acs acs′ (within (partyOf e m) (z .acceptors)) (finishedBy z e m q c l n .change .acceptor) (acceptor-there z ps acs ls t fit (partyOf e m)) i;
-      learners = set-append-left ls ls′ (within (partyOf e m) (z .learners)) (learnerAfter z (finishedBy z e m q c l n .change .hears) (finishedBy z e m q c l n .change .stops) m l) (learner-there z ps acs ls t fit (partyOf e m)) i;
-      slots = (ap (post (itemsOf (finishedBy z e m q c l n .change .send))) (set-append-left t t′ (within (e .a) (z .slots)) (slotAfter (finishedBy z e m q c l n .change .frees) m) (slot-there z ps acs ls t fit (e .a)))
-          ∙ post-longer t′ taken (itemsOf (finishedBy z e m q c l n .change .send)) (set t (within (e .a) (z .slots)) (slotAfter (finishedBy z e m q c l n .change .frees) m))) i;
+      proposers = set-append-left ps ps′ (indexIn (partyOf e m) (z .proposers)) (finishedBy z e m q c l n .change .proposer) (proposer-there z ps acs ls t fit (partyOf e m)) i;
+      acceptors = set-append-left acs acs′ (indexIn (partyOf e m) (z .acceptors)) (finishedBy z e m q c l n .change .acceptor) (acceptor-there z ps acs ls t fit (partyOf e m)) i;
+      learners = set-append-left ls ls′ (indexIn (partyOf e m) (z .learners)) (learnerAfter z (finishedBy z e m q c l n .change .hears) (finishedBy z e m q c l n .change .stops) m l) (learner-there z ps acs ls t fit (partyOf e m)) i;
+      slots = (ap (post (itemsOf (finishedBy z e m q c l n .change .send))) (set-append-left t t′ (indexIn (e .a) (z .slots)) (slotAfter (finishedBy z e m q c l n .change .frees) m) (slot-there z ps acs ls t fit (e .a)))
+          ∙ post-longer t′ taken (itemsOf (finishedBy z e m q c l n .change .send)) (set t (indexIn (e .a) (z .slots)) (slotAfter (finishedBy z e m q c l n .change .frees) m))) i;
     }
 
     at-longer : (m : Message) → stepAt z e m (ps ++ ps′) (acs ++ acs′) (ls ++ ls′) (t ++ t′) ≡ withMore (stepAt z e m ps acs ls t) ps′ acs′ ls′ t′
     at-longer m =
-        (λ i. stepBy z e m (List·getD-append ps ps′ freshProposer (within (partyOf e m) (z .proposers)) (proposer-there z ps acs ls t fit (partyOf e m)) i)
-        (List·getD-append acs acs′ freshAcceptor (within (partyOf e m) (z .acceptors)) (acceptor-there z ps acs ls t fit (partyOf e m)) i)
-        (List·getD-append ls ls′ freshLearner (within (partyOf e m) (z .learners)) (learner-there z ps acs ls t fit (partyOf e m)) i)
+        (λ i. stepBy z e m (List·getD-append ps ps′ freshProposer (indexIn (partyOf e m) (z .proposers)) (proposer-there z ps acs ls t fit (partyOf e m)) i)
+        (List·getD-append acs acs′ freshAcceptor (indexIn (partyOf e m) (z .acceptors)) (acceptor-there z ps acs ls t fit (partyOf e m)) i)
+        (List·getD-append ls ls′ freshLearner (indexIn (partyOf e m) (z .learners)) (learner-there z ps acs ls t fit (partyOf e m)) i)
         (free-longer t′ taken t i) (ps ++ ps′) (acs ++ acs′) (ls ++ ls′) (t ++ t′))
-        ∙ by-longer m (getD ps (within (partyOf e m) (z .proposers)) freshProposer) (getD acs (within (partyOf e m) (z .acceptors)) freshAcceptor)
-        (getD ls (within (partyOf e m) (z .learners)) freshLearner) (freeSlots t)
+        ∙ by-longer m (getD ps (indexIn (partyOf e m) (z .proposers)) freshProposer) (getD acs (indexIn (partyOf e m) (z .acceptors)) freshAcceptor)
+        (getD ls (indexIn (partyOf e m) (z .learners)) freshLearner) (freeSlots t)
 
     -- the same answer, and the same records and slots with the others behind
     pub step-longer : stepOf z e (ps ++ ps′) (acs ++ acs′) (ls ++ ls′) (t ++ t′) ≡ withMore (stepOf z e ps acs ls t) ps′ acs′ ls′ t′
     step-longer =
-        ap (λ (m : Message). stepAt z e m (ps ++ ps′) (acs ++ acs′) (ls ++ ls′) (t ++ t′)) (List·getD-append t t′ freeSlot (within (e .a) (z .slots)) (slot-there z ps acs ls t fit (e .a)))
+        ap (λ (m : Message). stepAt z e m (ps ++ ps′) (acs ++ acs′) (ls ++ ls′) (t ++ t′)) (List·getD-append t t′ freeSlot (indexIn (e .a) (z .slots)) (slot-there z ps acs ls t fit (e .a)))
         ∙ at-longer (theMessage z e ps acs ls t)
 
 -- ---- a run

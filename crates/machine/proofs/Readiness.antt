@@ -25,7 +25,7 @@ use Rattle.sizes.proofs.SizeLaws.{bounds}
 use Rattle.decisions.proofs.Sendable.{Sendable, silent, sendable}
 use Rattle.decisions.specs.declared.arms.Decision.{Decision}
 use Rattle.machine.specs.Slots.{Ready}
-use Rattle.machine.specs.Stepping.{within, Fits}
+use Rattle.machine.specs.Stepping.{indexIn, Fits}
 use Rattle.decisions.specs.Arms.{needOf, decideOf, refusedOf, finishOf}
 
 -- ---- the records that an event finds are there
@@ -34,21 +34,21 @@ within-by : (t : Bool) (i n k : ℕ) → (Holds t → i < n) → n ≤ k → 1 �
 within-by true i n k h e l = omega (arith, h tt)
 within-by false i n k h e l = omega arith
 
-pub within-in : (i n k : ℕ) → n ≤ k → 1 ≤ n → within i n < k
-unfolding within
+pub within-in : (i n k : ℕ) → n ≤ k → 1 ≤ n → indexIn i n < k
+unfolding indexIn
 within-in i n k e l = within-by (ltb i n) i n k (ltb→lt i n) e l
 
 module _ (z : Sizes) (ps : List Proposer) (acs : List Acceptor) (ls : List Learner) (t : List Message) (fit : Fits z ps acs ls t) where
-  pub proposer-there : (i : ℕ) → within i (z .proposers) < length ps
+  pub proposer-there : (i : ℕ) → indexIn i (z .proposers) < length ps
   proposer-there i = within-in i (z .proposers) (length ps) (fit .1 .0) (bounds z (fit .0) .some-proposers)
 
-  pub acceptor-there : (i : ℕ) → within i (z .acceptors) < length acs
+  pub acceptor-there : (i : ℕ) → indexIn i (z .acceptors) < length acs
   acceptor-there i = within-in i (z .acceptors) (length acs) (fit .1 .1 .0) (bounds z (fit .0) .some-acceptors)
 
-  pub learner-there : (i : ℕ) → within i (z .learners) < length ls
+  pub learner-there : (i : ℕ) → indexIn i (z .learners) < length ls
   learner-there i = within-in i (z .learners) (length ls) (fit .1 .1 .1 .0) (bounds z (fit .0) .some-learners)
 
-  pub slot-there : (i : ℕ) → within i (z .slots) < length t
+  pub slot-there : (i : ℕ) → indexIn i (z .slots) < length t
   slot-there i = within-in i (z .slots) (length t) (fit .1 .1 .1 .1) (omega (arith, bounds z (fit .0) .some-slots))
 
 -- ---- room

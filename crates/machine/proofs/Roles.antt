@@ -29,13 +29,13 @@ use Rattle.decisions.specs.Change.{unchanged, answeringOf, deliveringOf, crashi
 use Rattle.decisions.specs.Refusals.{aliveIn, slotNo, partyNo, testNo}
 use Rattle.choice.specs.Tests.{_unless_, _⨾_, refusal, ok}
 use Rattle.decisions.specs.declared.arms.Decision.{Decision}
-use Rattle.machine.specs.Stepping.{within, partyOf, replyOf, Left, theMessage, stepOf}
+use Rattle.machine.specs.Stepping.{indexIn, partyOf, replyOf, Left, theMessage, stepOf}
 use Rattle.decisions.specs.Arms.{needOf, decideOf, refusedOf, finishOf}
 use Rattle.machine.proofs.Readiness.{same}
 use Rattle.machine.specs.Roles.{proposerAt, acceptorAt, learnerAt, decisionAt, finishedAt, stepAt}
 use Rattle.decisions.specs.Arms.{armOfKind, armOfRole, armAt, armOf}
 
-pub step-at : (z : Sizes) (e : Event) (ps : List Proposer) (acs : List Acceptor) (ls : List Learner) (t : List Message) → stepOf z e ps acs ls t ≡ stepAt z e (within (e .a) (z .slots)) (theMessage z e ps acs ls t) ps acs ls t
+pub step-at : (z : Sizes) (e : Event) (ps : List Proposer) (acs : List Acceptor) (ls : List Learner) (t : List Message) → stepOf z e ps acs ls t ≡ stepAt z e (indexIn (e .a) (z .slots)) (theMessage z e ps acs ls t) ps acs ls t
 step-at z e ps acs ls t = refl
 
 -- ---- what an arm touches
@@ -457,22 +457,22 @@ module _ (z : Sizes) (e : Event) (k : ℕ) (m : Message) (ps : List Proposer) (a
 
   learners-stay : Holds (not (eqb (armOf e m) 3)) → ls ≡ stepAt z e k m ps acs ls t .learners
   learners-stay h =
-      sym (ap (λ (x : Learner). set ls (within (partyOf e m) (z .learners)) x) (unheard-by z (f .change .hears) (f .change .stops) m l (quiet-finished h .0) (quiet-finished h .1)) ∙ same freshLearner ls (within (partyOf e m) (z .learners)))
+      sym (ap (λ (x : Learner). set ls (indexIn (partyOf e m) (z .learners)) x) (unheard-by z (f .change .hears) (f .change .stops) m l (quiet-finished h .0) (quiet-finished h .1)) ∙ same freshLearner ls (indexIn (partyOf e m) (z .learners)))
 
   slots-as : (f₀ : Decision) (x : Proposer) (y : Acceptor) → f ≡ givenTo x y f₀ → post (itemsOf (f₀ .change .send)) (set t k (slotAfter (f₀ .change .frees) m)) ≡ stepAt z e k m ps acs ls t .slots
   slots-as f₀ x y p = ap (λ (g : Decision). post (itemsOf (g .change .send)) (set t k (slotAfter (g .change .frees) m))) (sym p)
 
   acceptors-stay : (f₀ : Decision) (x : Proposer) → f ≡ givenTo x c f₀ → acs ≡ stepAt z e k m ps acs ls t .acceptors
-  acceptors-stay f₀ x p = sym (ap (λ (g : Decision). set acs (within (partyOf e m) (z .acceptors)) (g .change .acceptor)) p ∙ same freshAcceptor acs (within (partyOf e m) (z .acceptors)))
+  acceptors-stay f₀ x p = sym (ap (λ (g : Decision). set acs (indexIn (partyOf e m) (z .acceptors)) (g .change .acceptor)) p ∙ same freshAcceptor acs (indexIn (partyOf e m) (z .acceptors)))
 
   proposers-stay : (f₀ : Decision) (y : Acceptor) → f ≡ givenTo q y f₀ → ps ≡ stepAt z e k m ps acs ls t .proposers
-  proposers-stay f₀ y p = sym (ap (λ (g : Decision). set ps (within (partyOf e m) (z .proposers)) (g .change .proposer)) p ∙ same freshProposer ps (within (partyOf e m) (z .proposers)))
+  proposers-stay f₀ y p = sym (ap (λ (g : Decision). set ps (indexIn (partyOf e m) (z .proposers)) (g .change .proposer)) p ∙ same freshProposer ps (indexIn (partyOf e m) (z .proposers)))
 
   -- ---- of each arm
 
   proposer-leaves : Holds (takesProposer (armOf e m)) → Holds (not (eqb (armOf e m) 3)) → leaves (stepAt z e k m ps [] [] t .answer) (stepAt z e k m ps [] [] t .proposers) acs ls (stepAt z e k m ps [] [] t .slots) ≡ stepAt z e k m ps acs ls t
   unfolding replyOf
-  proposer-leaves h n = λ i. leaves (w i) (set ps (within (partyOf e m) (z .proposers)) (sym p i .change .proposer)) (acceptors-stay f₀ (f₀ .change .proposer) p i) (learners-stay n i) (slots-as f₀ (f₀ .change .proposer) c p i)
+  proposer-leaves h n = λ i. leaves (w i) (set ps (indexIn (partyOf e m) (z .proposers)) (sym p i .change .proposer)) (acceptors-stay f₀ (f₀ .change .proposer) p i) (learners-stay n i) (slots-as f₀ (f₀ .change .proposer) c p i)
     where
       f₀ : Decision
       f₀ = finishedAt z e k m ps [] [] t
@@ -490,7 +490,7 @@ module _ (z : Sizes) (e : Event) (k : ℕ) (m : Message) (ps : List Proposer) (a
   by-told h = proposer-leaves (proposer-of 4 (armOf e m) h tt) (not-of 4 3 (armOf e m) h tt)
 
   pub by-acceptor : Holds (eqb (armOf e m) 2) → leaves (stepAt z e k m [] acs [] t .answer) ps (stepAt z e k m [] acs [] t .acceptors) ls (stepAt z e k m [] acs [] t .slots) ≡ stepAt z e k m ps acs ls t
-  by-acceptor h = λ i. leaves (w i) (proposers-stay f₀ (f₀ .change .acceptor) p i) (set acs (within (partyOf e m) (z .acceptors)) (sym p i .change .acceptor)) (learners-stay n i) (slots-as f₀ q (f₀ .change .acceptor) p i)
+  by-acceptor h = λ i. leaves (w i) (proposers-stay f₀ (f₀ .change .acceptor) p i) (set acs (indexIn (partyOf e m) (z .acceptors)) (sym p i .change .acceptor)) (learners-stay n i) (slots-as f₀ q (f₀ .change .acceptor) p i)
     where
       n : Holds (not (eqb (armOf e m) 3))
       n = not-of 2 3 (armOf e m) h tt
@@ -505,7 +505,7 @@ module _ (z : Sizes) (e : Event) (k : ℕ) (m : Message) (ps : List Proposer) (a
       w = quiet-reply z e f₀ m freshLearner l (ap (λ (g : Decision). g .change .hears) (sym p) ∙ quiet-finished n .0) ∙ sym (other-reply z e f₀ q (f₀ .change .acceptor) m l (not-of 2 1 (armOf e m) h tt)) ∙ ap (λ (g : Decision). replyOf z e g m l) (sym p)
 
   pub by-learner : Holds (eqb (armOf e m) 3) → leaves (stepAt z e k m [] [] ls t .answer) ps acs (stepAt z e k m [] [] ls t .learners) (stepAt z e k m [] [] ls t .slots) ≡ stepAt z e k m ps acs ls t
-  by-learner h = λ i. leaves (w i) (proposers-stay f₀ c p i) (acceptors-stay f₀ q p i) (set ls (within (partyOf e m) (z .learners)) (learnerAfter z (sym p i .change .hears) (sym p i .change .stops) m l)) (slots-as f₀ q c p i)
+  by-learner h = λ i. leaves (w i) (proposers-stay f₀ c p i) (acceptors-stay f₀ q p i) (set ls (indexIn (partyOf e m) (z .learners)) (learnerAfter z (sym p i .change .hears) (sym p i .change .stops) m l)) (slots-as f₀ q c p i)
     where
       f₀ : Decision
       f₀ = finishedAt z e k m [] [] ls t

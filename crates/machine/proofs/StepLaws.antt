@@ -31,7 +31,7 @@ use Rattle.decisions.proofs.Sendable.{sendable}
 use Rattle.sizes.proofs.SizeLaws.{bounds}
 use Rattle.decisions.proofs.Items.{items-silence, items-count}
 use Rattle.decisions.specs.declared.arms.Decision.{Decision}
-use Rattle.machine.specs.Stepping.{within, partyOf, replyOf, Left, theMessage, theProposer, theAcceptor, theLearner, stepOf}
+use Rattle.machine.specs.Stepping.{indexIn, partyOf, replyOf, Left, theMessage, theProposer, theAcceptor, theLearner, stepOf}
 use Rattle.decisions.specs.Arms.{needOf, decideOf, refusedOf, finishOf}
 use Rattle.machine.proofs.Readiness.{within-in, same, freed, need-none}
 use Rattle.machine.proofs.EventLaws.{At, Does, Law, event-law}
@@ -46,11 +46,11 @@ pub record Agrees (l : Left) (m : Stepped) : Type 0 where
 
 -- ---- a party that exists is found at its own place
 
-within-there : (p n : ℕ) → p < n → within p n ≡ p
-unfolding within
+within-there : (p n : ℕ) → p < n → indexIn p n ≡ p
+unfolding indexIn
 within-there p n h = rw (lt-ltb p n h)
 
-found : (z : Sizes) (p : ℕ) → At z (within p (z .proposers)) (within p (z .acceptors)) (within p (z .learners)) p
+found : (z : Sizes) (p : ℕ) → At z (indexIn p (z .proposers)) (indexIn p (z .acceptors)) (indexIn p (z .learners)) p
 found z p = record {
   proposer = within-there p (z .proposers);
   acceptor = within-there p (z .acceptors);
@@ -94,16 +94,16 @@ module _ (z : Sizes) (s : State) (e : Event) where
 
   -- their places
   abbrev i : ℕ
-  i = within (partyOf e m) (z .proposers)
+  i = indexIn (partyOf e m) (z .proposers)
 
   abbrev j : ℕ
-  j = within (partyOf e m) (z .acceptors)
+  j = indexIn (partyOf e m) (z .acceptors)
 
   abbrev k : ℕ
-  k = within (partyOf e m) (z .learners)
+  k = indexIn (partyOf e m) (z .learners)
 
   abbrev x : ℕ
-  x = within (e .a) (z .slots)
+  x = indexIn (e .a) (z .slots)
 
   -- ---- the three ways that it ends
 

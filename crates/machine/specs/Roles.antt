@@ -15,24 +15,25 @@ use Rattle.model.specs.declared.Acceptor.{Acceptor}
 use Rattle.model.specs.declared.Learner.{Learner}
 use Rattle.model.specs.declared.Message.{Message}
 use Rattle.model.specs.declared.Event.{Event}
+use Rattle.model.specs.declared.Answer.{Answer}
 use Rattle.decisions.specs.Sending.{itemsOf, lacking}
 use Rattle.decisions.specs.Change.{learnerAfter, slotAfter}
 use Rattle.decisions.specs.declared.arms.Decision.{Decision}
 use Rattle.decisions.specs.declared.arms.Ear.{Ear}
-use Rattle.machine.specs.Stepping.{within, partyOf, replyOf, Left}
+use Rattle.machine.specs.Stepping.{indexIn, partyOf, replyOf, Left}
 use Rattle.decisions.specs.Arms.{armOf, decideOf, finishOf}
 
 -- ---- one event on the message m of slot k
 
 module _ (z : Sizes) (e : Event) (k : ℕ) (m : Message) (ps : List Proposer) (acs : List Acceptor) (ls : List Learner) (t : List Message) where
   abbrev pub proposerAt : Proposer
-  proposerAt = getD ps (within (partyOf e m) (z .proposers)) freshProposer
+  proposerAt = getD ps (indexIn (partyOf e m) (z .proposers)) freshProposer
 
   abbrev pub acceptorAt : Acceptor
-  acceptorAt = getD acs (within (partyOf e m) (z .acceptors)) freshAcceptor
+  acceptorAt = getD acs (indexIn (partyOf e m) (z .acceptors)) freshAcceptor
 
   abbrev pub learnerAt : Learner
-  learnerAt = getD ls (within (partyOf e m) (z .learners)) freshLearner
+  learnerAt = getD ls (indexIn (partyOf e m) (z .learners)) freshLearner
 
   abbrev pub decisionAt : Decision
   decisionAt = decideOf z e m proposerAt acceptorAt learnerAt
@@ -43,11 +44,24 @@ module _ (z : Sizes) (e : Event) (k : ℕ) (m : Message) (ps : List Proposer) (a
   abbrev pub stepAt : Left
   stepAt = record {
     answer = replyOf z e finishedAt m learnerAt;
-    proposers = set ps (within (partyOf e m) (z .proposers)) (finishedAt .change .proposer);
-    acceptors = set acs (within (partyOf e m) (z .acceptors)) (finishedAt .change .acceptor);
-    learners = set ls (within (partyOf e m) (z .learners)) (learnerAfter z (finishedAt .change .hears) (finishedAt .change .stops) m learnerAt);
+    proposers = set ps (indexIn (partyOf e m) (z .proposers)) (finishedAt .change .proposer);
+    acceptors = set acs (indexIn (partyOf e m) (z .acceptors)) (finishedAt .change .acceptor);
+    learners = set ls (indexIn (partyOf e m) (z .learners)) (learnerAfter z (finishedAt .change .hears) (finishedAt .change .stops) m learnerAt);
     slots = post (itemsOf (finishedAt .change .send)) (set t k (slotAfter (finishedAt .change .frees) m));
   }
+
+-- what an arm gives: the answer, its own records where it has any, and the slots
+abbrev pub GivesSlots : Left → Answer → List Message → Type 0
+GivesSlots l r t = (r ≡ l .answer) × (t ≡ l .slots)
+
+abbrev pub GivesProposers : Left → Answer → List Proposer → List Message → Type 0
+GivesProposers l r ps t = (r ≡ l .answer) × ((ps ≡ l .proposers) × (t ≡ l .slots))
+
+abbrev pub GivesAcceptors : Left → Answer → List Acceptor → List Message → Type 0
+GivesAcceptors l r acs t = (r ≡ l .answer) × ((acs ≡ l .acceptors) × (t ≡ l .slots))
+
+abbrev pub GivesLearners : Left → Answer → List Learner → List Message → Type 0
+GivesLearners l r ls t = (r ≡ l .answer) × ((ls ≡ l .learners) × (t ≡ l .slots))
 
 -- the message is that of its slot
 abbrev pub Found : Sizes → ℕ → Message → List Message → Type 0

@@ -26,8 +26,8 @@ use Rattle.decisions.specs.declared.arms.Decision.{Decision}
 -- ---- which records an event finds
 
 -- i where it is one of n, and otherwise 0
-unfoldable pub within : ℕ → ℕ → ℕ
-within i n = if ltb i n then i else 0
+unfoldable pub indexIn : ℕ → ℕ → ℕ
+indexIn i n = if ltb i n then i else 0
 
 -- the number of the party that an event is about
 unfoldable pub partyAt : Event → Message → Code → ℕ
@@ -70,16 +70,16 @@ Gives l r ps acs ls t =
 
 module _ (z : Sizes) (e : Event) (ps : List Proposer) (acs : List Acceptor) (ls : List Learner) (t : List Message) where
   abbrev pub theMessage : Message
-  theMessage = getD t (within (e .a) (z .slots)) freeSlot
+  theMessage = getD t (indexIn (e .a) (z .slots)) freeSlot
 
   abbrev pub theProposer : Proposer
-  theProposer = getD ps (within (partyOf e theMessage) (z .proposers)) freshProposer
+  theProposer = getD ps (indexIn (partyOf e theMessage) (z .proposers)) freshProposer
 
   abbrev pub theAcceptor : Acceptor
-  theAcceptor = getD acs (within (partyOf e theMessage) (z .acceptors)) freshAcceptor
+  theAcceptor = getD acs (indexIn (partyOf e theMessage) (z .acceptors)) freshAcceptor
 
   abbrev pub theLearner : Learner
-  theLearner = getD ls (within (partyOf e theMessage) (z .learners)) freshLearner
+  theLearner = getD ls (indexIn (partyOf e theMessage) (z .learners)) freshLearner
 
   abbrev pub theDecision : Decision
   theDecision = decideOf z e theMessage theProposer theAcceptor theLearner
@@ -90,8 +90,8 @@ module _ (z : Sizes) (e : Event) (ps : List Proposer) (acs : List Acceptor) (ls 
   abbrev pub stepOf : Left
   stepOf = record {
     answer = replyOf z e finished theMessage theLearner;
-    proposers = set ps (within (partyOf e theMessage) (z .proposers)) (finished .change .proposer);
-    acceptors = set acs (within (partyOf e theMessage) (z .acceptors)) (finished .change .acceptor);
-    learners = set ls (within (partyOf e theMessage) (z .learners)) (learnerAfter z (finished .change .hears) (finished .change .stops) theMessage theLearner);
-    slots = post (itemsOf (finished .change .send)) (set t (within (e .a) (z .slots)) (slotAfter (finished .change .frees) theMessage));
+    proposers = set ps (indexIn (partyOf e theMessage) (z .proposers)) (finished .change .proposer);
+    acceptors = set acs (indexIn (partyOf e theMessage) (z .acceptors)) (finished .change .acceptor);
+    learners = set ls (indexIn (partyOf e theMessage) (z .learners)) (learnerAfter z (finished .change .hears) (finished .change .stops) theMessage theLearner);
+    slots = post (itemsOf (finished .change .send)) (set t (indexIn (e .a) (z .slots)) (slotAfter (finished .change .frees) theMessage));
   }

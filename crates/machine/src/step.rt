@@ -5,9 +5,9 @@ ghost use mathlib.Core.List.{[]};
 ghost use Rattle.model.specs.Records.{freshProposer, freshAcceptor};
 ghost use Rattle.sizes.specs.Sizes.{sizesInRange};
 ghost use Rattle.decisions.specs.Change.{slotAfter};
-ghost use Rattle.machine.specs.Stepping.{within, partyOf, Fits, Gives, stepOf};
+ghost use Rattle.machine.specs.Stepping.{indexIn, partyOf, Fits, Gives, stepOf};
 ghost use Rattle.decisions.specs.Arms.{finishOf};
-ghost use Rattle.machine.specs.Roles.{stepAt, OfTable, OfProposer, OfAcceptor, OfLearner, OfTold};
+ghost use Rattle.machine.specs.Roles.{stepAt, GivesSlots, GivesProposers, GivesAcceptors, GivesLearners, OfTable, OfProposer, OfAcceptor, OfLearner, OfTold};
 use crate::lent::load_acceptor;
 use crate::lent::load_ear;
 use crate::lent::load_message;
@@ -44,8 +44,8 @@ use sizes::Sizes;
 
 // ---- which records an event finds. A number that is too great finds record 0, which it leaves as it is.
 
-fn within_of(i: u64, n: u16) -> usize
-    ensures { λ r. ⌜ r ≡ within i n ⌝ }
+fn index_in(i: u64, n: u16) -> usize
+    ensures { λ r. ⌜ r ≡ indexIn i n ⌝ }
 {
     if i < n as u64 {
         return i as usize;
@@ -54,9 +54,9 @@ fn within_of(i: u64, n: u16) -> usize
 }
 
 fn slot_at(z: Sizes, e: Event) -> usize
-    ensures { λ r. ⌜ r ≡ within (e .a) (z .slots) ⌝ }
+    ensures { λ r. ⌜ r ≡ indexIn (e .a) (z .slots) ⌝ }
 {
-    within_of(e.a, z.slots)
+    index_in(e.a, z.slots)
 }
 
 // The number of the party that an event is about.
@@ -73,27 +73,27 @@ fn party_of(e: Event, m: Message) -> u64
 
 fn proposer_at(z: Sizes, i: u64) -> ProposerId
     requires { ⌜ sizesInRange z ≡ true ⌝ }
-    ensures { λ r. ⌜ r ≡ record { 0 = within i (z .proposers) } ⌝ }
+    ensures { λ r. ⌜ r ≡ record { 0 = indexIn i (z .proposers) } ⌝ }
 {
-    let at = within_of(i, z.proposers);
+    let at = index_in(i, z.proposers);
     let number = at as u8;
     ProposerId(number)
 }
 
 fn acceptor_at(z: Sizes, i: u64) -> AcceptorId
     requires { ⌜ sizesInRange z ≡ true ⌝ }
-    ensures { λ r. ⌜ r ≡ record { 0 = within i (z .acceptors) } ⌝ }
+    ensures { λ r. ⌜ r ≡ record { 0 = indexIn i (z .acceptors) } ⌝ }
 {
-    let at = within_of(i, z.acceptors);
+    let at = index_in(i, z.acceptors);
     let number = at as u8;
     AcceptorId(number)
 }
 
 fn learner_at(z: Sizes, i: u64) -> LearnerId
     requires { ⌜ sizesInRange z ≡ true ⌝ }
-    ensures { λ r. ⌜ r ≡ record { 0 = within i (z .learners) } ⌝ }
+    ensures { λ r. ⌜ r ≡ record { 0 = indexIn i (z .learners) } ⌝ }
 {
-    let at = within_of(i, z.learners);
+    let at = index_in(i, z.learners);
     let number = at as u8;
     LearnerId(number)
 }
@@ -185,7 +185,7 @@ fn step_learner(
     m: Message,
 ) -> Answer
     requires { ⌜ OfLearner z (now ls) (now t) e k m ⌝ }
-    ensures { λ r. ⌜ (r ≡ stepAt z e k m [] [] (now (ls .entry)) (now (t .entry)) .answer) × ((now (ls .exit) ≡ stepAt z e k m [] [] (now (ls .entry)) (now (t .entry)) .learners) × (now (t .exit) ≡ stepAt z e k m [] [] (now (ls .entry)) (now (t .entry)) .slots)) ⌝ }
+    ensures { λ r. ⌜ GivesLearners (stepAt z e k m [] [] (now (ls .entry)) (now (t .entry))) r (now (ls .exit)) (now (t .exit)) ⌝ }
 {
     let i = party_of(e, m);
     let li = learner_at(z, i);
@@ -208,7 +208,7 @@ fn step_told(
     m: Message,
 ) -> Answer
     requires { ⌜ OfTold z (now ps) (now t) e k m ⌝ }
-    ensures { λ r. ⌜ (r ≡ stepAt z e k m (now (ps .entry)) [] [] (now (t .entry)) .answer) × ((now (ps .exit) ≡ stepAt z e k m (now (ps .entry)) [] [] (now (t .entry)) .proposers) × (now (t .exit) ≡ stepAt z e k m (now (ps .entry)) [] [] (now (t .entry)) .slots)) ⌝ }
+    ensures { λ r. ⌜ GivesProposers (stepAt z e k m (now (ps .entry)) [] [] (now (t .entry))) r (now (ps .exit)) (now (t .exit)) ⌝ }
 {
     let i = party_of(e, m);
     let pi = proposer_at(z, i);
@@ -230,7 +230,7 @@ fn step_acceptor(
     m: Message,
 ) -> Answer
     requires { ⌜ OfAcceptor z (now acs) (now t) e k m ⌝ }
-    ensures { λ r. ⌜ (r ≡ stepAt z e k m [] (now (acs .entry)) [] (now (t .entry)) .answer) × ((now (acs .exit) ≡ stepAt z e k m [] (now (acs .entry)) [] (now (t .entry)) .acceptors) × (now (t .exit) ≡ stepAt z e k m [] (now (acs .entry)) [] (now (t .entry)) .slots)) ⌝ }
+    ensures { λ r. ⌜ GivesAcceptors (stepAt z e k m [] (now (acs .entry)) [] (now (t .entry))) r (now (acs .exit)) (now (t .exit)) ⌝ }
 {
     let i = party_of(e, m);
     let ai = acceptor_at(z, i);
@@ -257,7 +257,7 @@ fn step_proposer(
     m: Message,
 ) -> Answer
     requires { ⌜ OfProposer z (now ps) (now t) e k m ⌝ }
-    ensures { λ r. ⌜ (r ≡ stepAt z e k m (now (ps .entry)) [] [] (now (t .entry)) .answer) × ((now (ps .exit) ≡ stepAt z e k m (now (ps .entry)) [] [] (now (t .entry)) .proposers) × (now (t .exit) ≡ stepAt z e k m (now (ps .entry)) [] [] (now (t .entry)) .slots)) ⌝ }
+    ensures { λ r. ⌜ GivesProposers (stepAt z e k m (now (ps .entry)) [] [] (now (t .entry))) r (now (ps .exit)) (now (t .exit)) ⌝ }
 {
     let i = party_of(e, m);
     let pi = proposer_at(z, i);
@@ -277,7 +277,7 @@ fn step_proposer(
 
 fn step_table(z: Sizes, t: &mut [Message], e: Event, k: usize, m: Message) -> Answer
     requires { ⌜ OfTable z (now t) e k m ⌝ }
-    ensures { λ r. ⌜ (r ≡ stepAt z e k m [] [] [] (now (t .entry)) .answer) × (now (t .exit) ≡ stepAt z e k m [] [] [] (now (t .entry)) .slots) ⌝ }
+    ensures { λ r. ⌜ GivesSlots (stepAt z e k m [] [] [] (now (t .entry))) r (now (t .exit)) ⌝ }
 {
     let d = decide_table(z, e, m);
     let need = need_in(d);

@@ -38,7 +38,7 @@ use denote.Triple.Statement.{Contract, Triple}
 use denote.Triple.Table.{entered, cited}
 use denote.Triple.Walked.{says, needs, Stays, stay-none, stay-slice, walkOf, goes-none, goes-slice, Walks, ends-at, walked, walk-meets}
 use denote.Exit.{yes}
-use Rattle.machine.specs.Stepping.{within, theMessage, Left, stepOf, Fits}
+use Rattle.machine.specs.Stepping.{indexIn, theMessage, Left, stepOf, Fits}
 use Rattle.machine.specs.Roles.{stepAt}
 use Rattle.decisions.specs.Arms.{armOf}
 use Rattle.machine.proofs.Frees.{full, bare, dies-apart, frees-all}
@@ -196,7 +196,7 @@ module _ {M : Type 1} (𝓤 : URA M) (H : Heap 𝓤) (A : Atoms 𝓤) (W : Given
   Post = walkOf 𝓤 H A this.ended stayed (this.clauses 𝓤 H A mem run) .post (((κ₀, (κ₁, (κ₂, (κ₃, tt)))), (q₀, (q₁, (q₂, (q₃, tt)))), tt, (z, (listAt Pr.the-row b₀ o₀ ps γ₀, (listAt Ac.the-row b₁ o₁ acs γ₁, (listAt Le.the-row b₂ o₂ ls γ₂, (listAt Ms.the-row b₃ o₃ t γ₃, (e, tt)))))), at), tt)
 
   abbrev k : ℕ
-  k = within (e .a) (z .slots)
+  k = indexIn (e .a) (z .slots)
 
   abbrev m : Message
   m = theMessage z e ps acs ls t

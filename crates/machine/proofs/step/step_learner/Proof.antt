@@ -41,7 +41,7 @@ use lib.ListN.{getD}
 use Rattle.model.specs.Records.{freshLearner}
 use Rattle.decisions.specs.Change.{slotAfter}
 use Rattle.decisions.specs.Arms.{listenOf, heardIn}
-use Rattle.machine.specs.Stepping.{within, partyOf}
+use Rattle.machine.specs.Stepping.{indexIn, partyOf}
 use Rattle.machine.specs.Roles.{earOf, putEar, OfLearner}
 use Rattle.machine.proofs.Frees.{full, bare, dies-apart, frees-all}
 use Rattle.machine.proofs.Relending.{Slice, listAt}
@@ -233,7 +233,7 @@ module _ {M : Type 1} (𝓤 : URA M) (H : Heap 𝓤) (A : Atoms 𝓤) (W : Given
   i = partyOf e m
 
   abbrev li : ℕ
-  li = within i (z .learners)
+  li = indexIn i (z .learners)
 
   abbrev lid : LearnerId
   lid = record { 0 = li }

@@ -90,7 +90,7 @@ use Rattle.model.specs.Table.{post}
 use Rattle.decisions.specs.Sending.{itemsOf, lacking}
 use Rattle.decisions.specs.Change.{slotAfter}
 use Rattle.machine.specs.Slots.{Ready}
-use Rattle.decisions.specs.Arms.{armOf, decideOf, finishOf, decidedIn, toldIn, saidOf}
+use Rattle.decisions.specs.Arms.{armOf, decideOf, finishOf, decidedIn, toldIn, plainAnswer}
 use Rattle.machine.specs.Stepping.{indexIn, partyOf}
 use Rattle.machine.specs.Roles.{proposerAt, acceptorAt, decisionAt, finishedAt, stepAt, %s}
 use Rattle.model.specs.Records.{freshProposer, freshAcceptor, freshLearner}
@@ -118,7 +118,7 @@ f = arm('told', ('Proposer', 'ps'),
     locals=['u64', 'ProposerId', 'Proposer', 'Decision', 'Proposer', 'Message', ('Proposer', 'imm'), 'unit', ('Proposer', 'mut'), ('Message', 'mut')],
     temporaries=13,
     definitions=[('i', 'ℕ', 'partyOf e m'), ('pi', 'ℕ', 'indexIn i (z .proposers)'), ('pid', 'ProposerId', 'record { 0 = pi }'), ('q', 'Proposer', 'getD ps pi freshProposer'), ('f', 'Decision', 'finishOf (decideOf z e m q freshAcceptor freshLearner) 0 q freshAcceptor'),
-        ('m′', 'Message', 'slotAfter (f .change .frees) m'), ('ps′', 'List Proposer', 'set ps pi (f .change .proposer)'), ('t′', 'List Message', 'set t k m′'), ('r₀', 'Answer', 'saidOf e f')],
+        ('m′', 'Message', 'slotAfter (f .change .frees) m'), ('ps′', 'List Proposer', 'set ps pi (f .change .proposer)'), ('t′', 'List Message', 'set t k m′'), ('r₀', 'Answer', 'plainAnswer e f')],
     facts=[('in-p', 'pi < length ps', 'party-there i (z .proposers) (length ps) (fit .1 .0) (bounds z (fit .1 .1 .0) .some-proposers)'), ('in-k', 'k < length t', 'fit .1 .1 .1 .0')],
     after=['ps′', 't′'], says='(said-as z e f m freshLearner (told-quiet z e k m ps t (fit .0)) ∙ told-says z e k m ps t (fit .0), (told-left z e k m ps t (fit .0), told-slots z e k m ps t (fit .0)))',
     uses=(OTHERS % 'OfTold', LAWS % 'told-says, told-left, told-slots, told-quiet, said-as'))
@@ -148,7 +148,7 @@ def party(name, number, struct, short, slice, lists, at, records):
         locals=['u64', struct + 'Id', struct, 'Decision', 'u8', 'u8', 'Decision', struct, 'Message', 'Send', (struct, 'imm'), ('Message', 'imm'), 'unit', (struct, 'mut'), ('Message', 'mut'), ('Message', 'mut')],
         temporaries=17,
         definitions=[('i', 'ℕ', 'partyOf e m'), ('p', 'ℕ', 'indexIn i (z .%ss)' % own), ('id', struct + 'Id', 'record { 0 = p }'), (short, struct, '%s z e k m %s t' % (at, lists))] + finished(lists) + left(lists)
-        + [('own′', 'List ' + struct, 'set %s p (f .change .%s)' % (slice, own)), ('t′', 'List Message', 'post (itemsOf (f .change .send)) t₁'), ('r₀', 'Answer', 'saidOf e f')],
+        + [('own′', 'List ' + struct, 'set %s p (f .change .%s)' % (slice, own)), ('t′', 'List Message', 'post (itemsOf (f .change .send)) t₁'), ('r₀', 'Answer', 'plainAnswer e f')],
         facts=[('in-p', 'p < length ' + slice, 'party-there i (z .%ss) (length %s) (fit .1 .0) (bounds z (fit .1 .1 .0) .some-%ss)' % (own, slice, own)), ('in-k', 'k < length t', 'fit .1 .1 .1 .0'),
             ('ready', 'Ready (f .change .send) t₁', 'ready-at z e k m %s t in-k (fit .1 .1 .1 .1)' % lists)],
         after=['own′', 't′'], says='(said-as z e f m freshLearner (quiet-finished z e k m %s t (not-of %d 3 (armOf e m) (fit .0) tt) .0), (refl, refl))' % (lists, number),
@@ -185,7 +185,7 @@ party('proposer', 1, 'Proposer', 'q', 'ps', 'ps [] []', 'proposerAt', 'q freshAc
 f = arm('table', None,
     locals=['Decision', 'u8', 'u8', 'Decision', 'Message', 'Send', ('Message', 'imm'), 'unit', ('Message', 'mut'), ('Message', 'mut')],
     temporaries=12,
-    definitions=finished('[] [] []') + left('[] [] []') + [('t′', 'List Message', 'post (itemsOf (f .change .send)) t₁'), ('r₀', 'Answer', 'saidOf e f')],
+    definitions=finished('[] [] []') + left('[] [] []') + [('t′', 'List Message', 'post (itemsOf (f .change .send)) t₁'), ('r₀', 'Answer', 'plainAnswer e f')],
     facts=[('in-k', 'k < length t', 'fit .1 .1 .0'), ('ready', 'Ready (f .change .send) t₁', 'ready-at z e k m [] [] [] t in-k (fit .1 .1 .1)')],
     after=['t′'], says='(said-as z e f m freshLearner (quiet-finished z e k m [] [] [] t (not-of 0 3 (armOf e m) (fit .0) tt) .0), refl)',
     uses=(OTHERS % 'OfTable', LAWS % 'ready-at, said-as'))

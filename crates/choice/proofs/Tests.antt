@@ -4,7 +4,7 @@ use mathlib.Core.Bool.{Bool, true, false, _&&_, false≢true}
 use Prim.Native.Nat.{ℕ, zero, suc}
 use native.Mathlib.Nat.{suc-ne-zero}
 use Rattle.choice.specs.Choice.{if_then_else_}
-use Rattle.choice.specs.Tests.{_unless_, refusal}
+use Rattle.choice.specs.Tests.{_unless_, refusal, _⨾_}
 
 pub if-ind : {B : Type 0} (Q : B → Type 0) (b : Bool) (x y : B) → (b ≡ true → Q x) → (b ≡ false → Q y) → Q (if b then x else y)
 if-ind Q true x y f g = f refl
@@ -42,3 +42,8 @@ no-refusal (suc n) rest e = e
 pub rest-unrefused : (n rest : ℕ) → refusal n rest ≡ 0 → rest ≡ 0
 rest-unrefused zero rest e = e
 rest-unrefused (suc n) rest e = absurd (suc-ne-zero n e)
+
+-- a refusal stands, whatever comes after it
+pub stands : (n rest : ℕ) → (n ≡ 0 → ⊥) → (refusal n ⨾ rest) ≡ n
+stands zero rest h = absurd (h refl)
+stands (suc n) rest h = refl

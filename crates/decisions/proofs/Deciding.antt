@@ -26,7 +26,7 @@ use Rattle.decisions.specs.Change.{unchanged, freed, asProposer, answeri
 use Rattle.decisions.specs.Refusals.{aliveIn, slotNo, partyNo, testNo}
 use Rattle.decisions.specs.declared.arms.Decision.{Decision}
 use Rattle.decisions.specs.declared.arms.Ear.{Ear}
-use Rattle.decisions.specs.Arms.{armOfKind, armOfRole, armAt, armOf, takes, needOf, decideOf, refusedOf, finishOf, decidedIn, toldBy, deliveredNo, toldIn, earNo, listenOf, heardIn, saidOf}
+use Rattle.decisions.specs.Arms.{armOfKind, armOfRole, armAt, armOf, takes, needOf, decideOf, refusedOf, finishOf, decidedIn, toldBy, deliveredNo, toldIn, earNo, listenOf, heardIn, plainAnswer}
 
 -- ---- the events that an arm takes
 
@@ -304,16 +304,16 @@ ok-by z v a m l (suc (suc (suc (suc (suc (suc (suc (suc (suc k))))))))) g = refl
 says-ok : (z : Sizes) (h : Bool) (v : Scans) (a : ℕ) (m : Message) (l : Learner) (n : ℕ) → h ≡ false → (n ≡ 7 → ⊥) → Ok ≡ answerOf z h v a m l (codeOf n)
 says-ok z h v a m l n p q = ok-by z v a m l n q ∙ ap (λ (y : Bool). answerOf z y v a m l (codeOf n)) (sym p)
 
-pub said-decided : (e : Event) (f : Decision) → f .no ≡ 0 → e .code ≡ 7 → Decided (record { 0 = asProposer (e .a) }) (f .change .proposer .decided) ≡ saidOf e f
-unfolding saidOf
+pub said-decided : (e : Event) (f : Decision) → f .no ≡ 0 → e .code ≡ 7 → Decided (record { 0 = asProposer (e .a) }) (f .change .proposer .decided) ≡ plainAnswer e f
+unfolding plainAnswer
 said-decided e f o p = rw (eq-eqb (f .no) 0 o) (rw (eq-eqb (e .code) 7 p) refl)
 
-pub said-ok : (e : Event) (f : Decision) → f .no ≡ 0 → (e .code ≡ 7 → ⊥) → Ok ≡ saidOf e f
-unfolding saidOf
+pub said-ok : (e : Event) (f : Decision) → f .no ≡ 0 → (e .code ≡ 7 → ⊥) → Ok ≡ plainAnswer e f
+unfolding plainAnswer
 said-ok e f o p = rw (eq-eqb (f .no) 0 o) (rw (ne-eqb (e .code) 7 p) refl)
 
-pub said-refused : (e : Event) (f : Decision) → (f .no ≡ 0 → ⊥) → Refused (f .no) ≡ saidOf e f
-unfolding saidOf
+pub said-refused : (e : Event) (f : Decision) → (f .no ≡ 0 → ⊥) → Refused (f .no) ≡ plainAnswer e f
+unfolding plainAnswer
 said-refused e f o = rw (ne-eqb (f .no) 0 o) refl
 
 -- by the number of the code

@@ -11,7 +11,8 @@ use Rattle.sizes.specs.declared.Sizes.{Sizes}
 use Rattle.model.specs.Records.{Kind, free, internal, proposal, acknowledgement, rejection, announcement, noKind, kindOf, Role, aProposer, anAcceptor, aLearner, noRole, roleOf, addressed}
 use Rattle.model.specs.Rules.{accepts, answering}
 use Rattle.model.specs.Table.{from}
-use Rattle.choice.specs.Tests.{_unless_, _⨾_, refusal, ok}
+use Rattle.choice.specs.Tests.{_unless_, _⨾_, ok}
+use Rattle.choice.proofs.Tests.{no-refusal}
 use Rattle.model.specs.Ranges.{all}
 use Rattle.model.specs.Events.{Code, receive, deliver, drop, duplicate, propose, refine, decide, crash, noCode}
 use Rattle.model.specs.declared.Proposer.{Proposer}
@@ -73,10 +74,6 @@ slot-by false u e = absurd (not-none 2 e)
 slot-taken : (z : Sizes) (a b : ℕ) (m : Message) → slotNo z a b m ≡ 0 → Holds (isTaken m)
 slot-taken z a b m e = slot-by (ltb a (z .slots) && eqb b 0) (isTaken m) e
 
-first-none : (n r : ℕ) → (refusal n ⨾ r) ≡ 0 → n ≡ 0
-first-none zero r e = refl
-first-none (suc n) r e = e
-
 -- ---- by event
 
 quiet : {m : Message} {d : Change} → d .send ≡ silence → (Holds (d .frees) → Holds (isTaken m)) → Sendable m d
@@ -110,7 +107,7 @@ crashes m q c noRole = quiet refl (λ f. absurd f)
 pub sendable : (z : Sizes) (a b : ℕ) (m : Message) (q : Proposer) (c : Acceptor) (x y : Bool) (code : Code) → testNo z a b m q x y code ≡ 0 → Sendable m (changeOf z a b m q c code)
 unfolding changeOf testNo receivingOf
 sendable z a b m q c x y receive e = loud tt (λ f. absurd f)
-sendable z a b m q c x y deliver e = delivery z m q c (kindOf (m .kind)) (slot-taken z a b m (first-none (slotNo z a b m) (5 unless aliveIn (addressed (kindOf (m .kind))) (q .alive) x y ⨾ ok) e))
+sendable z a b m q c x y deliver e = delivery z m q c (kindOf (m .kind)) (slot-taken z a b m (no-refusal (slotNo z a b m) (5 unless aliveIn (addressed (kindOf (m .kind))) (q .alive) x y ⨾ ok) e))
 sendable z a b m q c x y drop e = quiet refl (λ f. slot-taken z a b m e)
 sendable z a b m q c x y duplicate e = loud (slot-taken z a b m e) (λ f. absurd f)
 sendable z a b m q c x y propose e = loud tt (λ f. absurd f)

@@ -100,8 +100,8 @@ abbrev pub toldIn : Sizes → Event → Message → Proposer → Decision
 toldIn z e m q = if takes 4 z e m then finishOf (decideOf z e m q freshAcceptor freshLearner) 0 q freshAcceptor else refusedOf 2 q freshAcceptor
 
 -- what is answered where no learner hears
-unfoldable pub saidOf : Event → Decision → Answer
-saidOf e f = if eqb (f .no) 0 then (if eqb (e .code) 7 then Decided (record { 0 = asProposer (e .a) }) (f .change .proposer .decided) else Ok) else Refused (f .no)
+unfoldable pub plainAnswer : Event → Decision → Answer
+plainAnswer e f = if eqb (f .no) 0 then (if eqb (e .code) 7 then Decided (record { 0 = asProposer (e .a) }) (f .change .proposer .decided) else Ok) else Refused (f .no)
 
 -- ---- a learner, by itself and the place of one proposer
 

@@ -8,12 +8,11 @@ ghost use Rattle.model.specs.Events.{codeOf, deliver};
 ghost use Rattle.model.specs.declared.Answer.the-variants.{Ok};
 ghost use Rattle.decisions.specs.Change.{changeOf};
 ghost use Rattle.decisions.specs.Refusals.{testNo};
-ghost use Rattle.decisions.specs.Arms.{armOfKind, armOfRole, armOf, needOf, decideOf, refusedOf, finishOf, takes, decidedIn, toldBy, toldIn, deliveredNo, earAt, hears, earSays, earNo, listenOf, heardIn, saidOf};
+ghost use Rattle.decisions.specs.Arms.{armOfKind, armOfRole, armOf, needOf, decideOf, refusedOf, finishOf, takes, decidedIn, toldBy, toldIn, deliveredNo, earAt, hears, earSays, earNo, listenOf, heardIn, plainAnswer};
 use crate::decide::Change;
 use crate::decide::acknowledged_by;
 use crate::decide::alive_no;
 use crate::decide::deliver_proposal;
-use crate::decide::first_no;
 use crate::decide::freed_of;
 use crate::decide::party_no;
 use crate::decide::proposed_change;
@@ -26,6 +25,7 @@ use crate::decide::slot_no;
 use crate::decide::unchanged_of;
 use crate::sending::one_of;
 use choice::both;
+use choice::first_no;
 use model::Acceptor;
 use model::Answer;
 use model::Event;
@@ -446,7 +446,7 @@ pub fn finish(d: Decision, left: u8, q: Proposer, c: Acceptor) -> Decision
 
 // What an event answers where no learner hears.
 pub fn reply(e: Event, f: Decision) -> Answer
-    ensures { λ r. ⌜ r ≡ saidOf e f ⌝ }
+    ensures { λ r. ⌜ r ≡ plainAnswer e f ⌝ }
 {
     let no = f.no;
     if no == 0 {

@@ -2,7 +2,7 @@
 ghost use mathlib.Core.Path.{_≡_};
 ghost use mathlib.Core.Bool.{true};
 ghost use Rattle.sizes.specs.Sizes.{sizesInRange};
-ghost use Rattle.choice.specs.Tests.{_unless_, _⨾_, refusal, ok};
+ghost use Rattle.choice.specs.Tests.{_unless_, _⨾_, ok};
 ghost use Rattle.decisions.specs.Change.{unchanged, freed, sends, receivingOf, acceptorSends, answeringOf, acknowledgedBy, rejectedBy, asProposer, proposalsOf, slotAfter};
 ghost use Rattle.decisions.specs.Refusals.{slotNo, receiveNo, proposerNo, partyNo};
 use crate::sending::Send;
@@ -206,13 +206,6 @@ pub fn slot_after(frees: bool, m: Message) -> Message
 }
 
 // ---- the first refusal but 1 and 8
-
-// The first of two refusals, or 0.
-pub(crate) fn first_no(first: u8, second: u8) -> u8
-    ensures { λ r. ⌜ r ≡ (refusal first ⨾ second) ⌝ }
-{
-    if first == 0 { second } else { first }
-}
 
 // 5 where a party has crashed.
 pub(crate) fn alive_no(alive: bool) -> u8

@@ -5,7 +5,6 @@ ghost use mathlib.Core.Bool.{true};
 ghost use lib.Dec.{leb};
 ghost use lib.ListN.{length};
 ghost use lib.Seq.{sets};
-ghost use Rattle.choice.specs.Tests.{refusal, _⨾_};
 ghost use Rattle.numbers.specs.Coding.{writtenNo};
 ghost use Rattle.forms.specs.Forms.{placeOf, plain, numbersAt, endedAt, forms, allWithin, numbersWritten, afterNumbers, numbersWrittenNo};
 use numbers::Limit;
@@ -78,13 +77,6 @@ pub fn ended(length: usize, place: Place) -> Place
         }
         Place::Refused(refusal) => Place::Refused(refusal),
     }
-}
-
-// The first of two refusals, where 0 is none.
-pub fn first_no(first: u8, second: u8) -> u8
-    ensures { λ r. ⌜ r ≡ (refusal first ⨾ second) ⌝ }
-{
-    if first == 0 { second } else { first }
 }
 
 // Whether the written forms of the numbers, one after the other, take at most `room` bytes.

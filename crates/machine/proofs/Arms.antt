@@ -23,7 +23,7 @@ use Rattle.decisions.specs.declared.decide.Change.{Change}
 use Rattle.decisions.specs.declared.sending.Send.{Send}
 use Rattle.decisions.specs.Sending.{silence, itemsOf, lacking}
 use Rattle.decisions.specs.Change.{freed, changeOf, slotAfter}
-use Rattle.decisions.specs.Arms.{armOf, decideOf, refusedOf, finishOf, saidOf}
+use Rattle.decisions.specs.Arms.{armOf, decideOf, refusedOf, finishOf, plainAnswer}
 use Rattle.decisions.proofs.Items.{items-silence}
 use Rattle.decisions.proofs.Deciding.{told-change, needs-none, says-as}
 use Rattle.decisions.specs.declared.arms.Decision.{Decision}
@@ -41,8 +41,8 @@ ready-at z e k m ps acs ls t i same =
     (ready-after z e t k (proposerAt z e k (getD t k freeSlot) ps acs ls t) (acceptorAt z e k (getD t k freeSlot) ps acs ls t) (learnerAt z e k (getD t k freeSlot) ps acs ls t) i)
 
 -- what is answered where no learner hears
-pub said-as : (z : Sizes) (e : Event) (f : Decision) (m : Message) (l : Learner) → f .change .hears ≡ false → saidOf e f ≡ replyOf z e f m l
-unfolding saidOf replyOf
+pub said-as : (z : Sizes) (e : Event) (f : Decision) (m : Message) (l : Learner) → f .change .hears ≡ false → plainAnswer e f ≡ replyOf z e f m l
+unfolding plainAnswer replyOf
 said-as z e f m l h = ap (λ (w : Answer). if eqb (f .no) 0 then w else Refused (f .no)) (says-as z (f .change .hears) (f .change .proposer .decided) (e .a) m l (e .code) h)
 
 -- ---- a proposer that is told

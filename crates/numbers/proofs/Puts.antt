@@ -11,15 +11,11 @@ use lib.Seq.{sets, length-sets, getD-set-other}
 use borrow.Author.Tests.{leb-true, leb-false, lt-leb, le-leb, eqb-true, eqb-false, eq-eqb, ne-eqb}
 use Rattle.choice.specs.Choice.{if_then_else_}
 use Rattle.choice.specs.Tests.{_unless_, refusal, _⨾_, ok}
+use Rattle.choice.proofs.Tests.{stands}
 use Rattle.numbers.specs.declared.Refusal.{Refusal}
 use Rattle.numbers.specs.declared.Written.{Written}
 use Rattle.numbers.specs.declared.Written.the-variants as written
 use Rattle.numbers.specs.Coding.{refusedWrite, putNo, putAnswer, afterPut, writtenNo}
-
--- a refusal stands, whatever comes after it
-pub stands : (n rest : ℕ) → (n ≡ 0 → ⊥) → (refusal n ⨾ rest) ≡ n
-stands zero rest h = absurd (h refl)
-stands (suc n) rest h = refl
 
 -- a place and a refusal are not the same
 pub refused-next : {r : Refusal} {n : ℕ} → written.Refused r ≡ written.Next n → ⊥

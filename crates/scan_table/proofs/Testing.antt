@@ -10,11 +10,10 @@ use lib.ListN.{length, drop, getD}
 use lib.Seq.{drop-cons}
 use borrow.Author.Tests.{eqb-true, eq-eqb, ne-eqb}
 use Rattle.choice.specs.Tests.{_unless_, refusal, _⨾_, ok}
-use Rattle.choice.proofs.Tests.{and-l, and-r, test-passed, rest-passed, no-refusal, rest-unrefused}
+use Rattle.choice.proofs.Tests.{and-l, and-r, test-passed, rest-passed, no-refusal, rest-unrefused, stands}
 use Rattle.sizes.specs.Sizes.{scansInRange}
 use Rattle.numbers.specs.Coding.{mostOf, limitNo}
 use Rattle.numbers.specs.declared.Limit.the-variants.{Table}
-use Rattle.numbers.proofs.Puts.{stands}
 use Rattle.forms.specs.Forms.{Test, rowNo, rowsNo, asRead}
 use Rattle.scan_table.specs.declared.Scan.{Scan}
 use Rattle.scan_table.specs.Table.{fieldsOf, scanAt, scansIn, wholeTable, tableNo, testsOf}

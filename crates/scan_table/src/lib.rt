@@ -89,11 +89,11 @@ impl Scan {
     fn written_no(self) -> u8
         ensures { λ r. ⌜ r ≡ rowNo writtenTests (fieldsOf self) ⌝ }
     {
-        let tag = forms::first_no(coding_no(self.tag), tag_no(self.tag));
-        let shelf = forms::first_no(coding_no(self.shelf), shelf_no(self.shelf));
-        let device = forms::first_no(coding_no(self.device), device_no(self.device));
-        let time = forms::first_no(coding_no(self.time), time_no(self.time));
-        forms::first_no(tag, forms::first_no(shelf, forms::first_no(device, time)))
+        let tag = choice::first_no(coding_no(self.tag), tag_no(self.tag));
+        let shelf = choice::first_no(coding_no(self.shelf), shelf_no(self.shelf));
+        let device = choice::first_no(coding_no(self.device), device_no(self.device));
+        let time = choice::first_no(coding_no(self.time), time_no(self.time));
+        choice::first_no(tag, choice::first_no(shelf, choice::first_no(device, time)))
     }
 
     // The one or the other: `written` where the scan is to be written.

@@ -14,7 +14,7 @@ use Rattle.choice.specs.Choice.{if_then_else_}
 use Rattle.sets.specs.Scans.{mostScans, fits}
 use Rattle.sets.specs.declared.scans.Scans.{Scans}
 use Rattle.numbers.specs.declared.Refusal.{Refusal}
-use Rattle.numbers.proofs.Puts.{stands}
+use Rattle.choice.proofs.Tests.{stands}
 use Rattle.forms.specs.Forms.{FormRead, readAs, unread, intoRoom, afterRoom}
 use Rattle.scan_table.specs.declared.TableRead.the-variants as table
 use Rattle.scan_table.specs.Table.{tagNo, scanTests, scanAt, scansIn, tableNo, readTable, tableAnswer}

@@ -7,7 +7,7 @@ use Rattle.numbers.specs.Coding.{mostOf}
 use Rattle.numbers.specs.declared.Limit.the-variants as limit
 use Rattle.forms.specs.Forms.{allWithin}
 use Rattle.schedule.specs.Schedule.{headerNo, headerFor, scheduleNo}
-use Rattle.numbers.proofs.Puts.{stands}
+use Rattle.choice.proofs.Tests.{stands}
 use Rattle.schedule.proofs.schedule_no.Statement.{statement}
 use Rattle.schedule.proofs.schedule_no.Tie as tie
 

@@ -1,7 +1,7 @@
 -- `scan_table::Scan::no` meets its contract: each answer is the first refusal. Assumes nothing.
 use mathlib.Core.Path.{_≡_, sym, _∙_}
 use Rattle.scan_table.specs.Table.{tagNo, shelfNo, deviceNo, timeNo}
-use Rattle.numbers.proofs.Puts.{stands}
+use Rattle.choice.proofs.Tests.{stands}
 use Rattle.scan_table.proofs.Testing.{four-no}
 use borrow.Author.Needs.{needs}
 use Rattle.scan_table.proofs.Scan.no.Statement.{statement}

@@ -1,9 +1,9 @@
--- `forms::first_no` meets its contract. Assumes nothing.
+-- `choice::first_no` meets its contract. Assumes nothing.
 use mathlib.Core.Path.{sym}
 use borrow.Author.Needs.{needs}
-use Rattle.numbers.proofs.Puts.{stands}
-use Rattle.forms.proofs.first_no.Statement.{statement}
-use Rattle.forms.proofs.first_no.Tie as tie
+use Rattle.choice.proofs.Tests.{stands}
+use Rattle.choice.proofs.first_no.Statement.{statement}
+use Rattle.choice.proofs.first_no.Tie as tie
 
 returns : tie.Need-returns
 returns c = search needs

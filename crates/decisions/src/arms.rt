@@ -307,7 +307,11 @@ fn stop_it(mut x: Ear) -> Listened
 }
 
 fn heard_by(z: Sizes, e: Event, m: Message, x: Ear) -> Listened
-    ensures { λ r. ⌜ r ≡ record { ear = earAt z m x (codeOf (e .code)); frees = hears (codeOf (e .code)); answer = earSays z m x (codeOf (e .code)) } ⌝ }
+    ensures { λ r. ⌜ r ≡ record {
+      ear = earAt z m x (codeOf (e .code));
+      frees = hears (codeOf (e .code));
+      answer = earSays z m x (codeOf (e .code));
+    } ⌝ }
 {
     let code = e.code;
     match code {

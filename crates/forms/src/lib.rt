@@ -114,7 +114,8 @@ pub fn all_within(values: &[u64], limit: Limit) -> bool
 // Writes the numbers one after the other from a place on that has room for them, and gives the place after them.
 fn put_numbers(buffer: &mut [u8], at: usize, values: &[u64], limit: Limit) -> usize
     requires { ⌜ (allWithin limit (now values) ≡ true) × (at + length (forms (now values)) ≤ length (now buffer)) ⌝ }
-    ensures { λ r. ⌜ (r ≡ at + length (forms (now (values .entry)))) × (now (buffer .exit) ≡ sets (now (buffer .entry)) at (forms (now (values .entry)))) ⌝ }
+    ensures { λ r. ⌜ (r ≡ at + length (forms (now (values .entry))))
+        × (now (buffer .exit) ≡ sets (now (buffer .entry)) at (forms (now (values .entry)))) ⌝ }
 {
     let mut next = at;
     let mut i: usize = 0;
@@ -135,7 +136,9 @@ fn put_numbers(buffer: &mut [u8], at: usize, values: &[u64], limit: Limit) -> us
 
 // Writes the numbers one after the other from a place on; 12 where one is above the limit, 8 where there is no room, and then no byte changes.
 pub fn write_numbers(buffer: &mut [u8], at: usize, values: &[u64], limit: Limit) -> Written
-    ensures { λ r. ⌜ (r ≡ numbersWritten limit (now (values .entry)) (now (buffer .entry)) at) × (now (buffer .exit) ≡ afterNumbers limit (now (values .entry)) (now (buffer .entry)) at) × (writtenNo r ≡ numbersWrittenNo limit (now (values .entry)) (now (buffer .entry)) at) ⌝ }
+    ensures { λ r. ⌜ (r ≡ numbersWritten limit (now (values .entry)) (now (buffer .entry)) at)
+        × (now (buffer .exit) ≡ afterNumbers limit (now (values .entry)) (now (buffer .entry)) at)
+        × (writtenNo r ≡ numbersWrittenNo limit (now (values .entry)) (now (buffer .entry)) at) ⌝ }
 {
     if !all_within(values, limit) {
         return Written::Refused(Refusal { no: 12 });

@@ -62,7 +62,9 @@ fn record_after(scans: u64, before: Acceptor, set: Scans) -> Acceptor
 
 // One acceptor's answer to a proposal of a set, on the record that a caller lends: the rule's, by value, is stored over it.
 pub fn answer_proposal(scans: u64, acceptor: &mut Acceptor, set: Scans) -> Reply
-    ensures { λ r. ⌜ (r ≡ replyTo scans (now (acceptor .entry)) set) × (replyNo r ≡ answeringNo scans (now (acceptor .entry)) set) × (now (acceptor .exit) ≡ recordAfter scans (now (acceptor .entry)) set) ⌝ }
+    ensures { λ r. ⌜ (r ≡ replyTo scans (now (acceptor .entry)) set)
+        × (replyNo r ≡ answeringNo scans (now (acceptor .entry)) set)
+        × (now (acceptor .exit) ≡ recordAfter scans (now (acceptor .entry)) set) ⌝ }
 {
     let before = *acceptor;
     let reply = reply_to(scans, before, set);

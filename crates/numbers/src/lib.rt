@@ -117,7 +117,8 @@ pub fn width(value: u64) -> usize
 // Writes the shortest form of a number at a place that has room for it, and gives the place after it.
 fn put(buffer: &mut [u8], at: usize, value: u64) -> usize
     requires { ⌜ at + length (form value) ≤ length (now buffer) ⌝ }
-    ensures { λ r. ⌜ (r ≡ at + length (form value)) × (now (buffer .exit) ≡ sets (now (buffer .entry)) at (form value)) ⌝ }
+    ensures { λ r. ⌜ (r ≡ at + length (form value))
+        × (now (buffer .exit) ≡ sets (now (buffer .entry)) at (form value)) ⌝ }
 {
     let mut i = at;
     let mut rest = value;
@@ -132,7 +133,9 @@ fn put(buffer: &mut [u8], at: usize, value: u64) -> usize
 
 // Writes the shortest form of a number at a place; 12 where the number is above the limit, 8 where there is no room, and then no byte changes.
 pub fn write_number(buffer: &mut [u8], at: usize, value: u64, limit: Limit) -> Written
-    ensures { λ r. ⌜ (r ≡ numberWritten limit value (now (buffer .entry)) at) × (now (buffer .exit) ≡ afterNumber limit value (now (buffer .entry)) at) × (writtenNo r ≡ numberWrittenNo limit value (now (buffer .entry)) at) ⌝ }
+    ensures { λ r. ⌜ (r ≡ numberWritten limit value (now (buffer .entry)) at)
+        × (now (buffer .exit) ≡ afterNumber limit value (now (buffer .entry)) at)
+        × (writtenNo r ≡ numberWrittenNo limit value (now (buffer .entry)) at) ⌝ }
 {
     if limit.most() < value {
         return Written::Refused(Refusal { no: 12 });

@@ -109,7 +109,8 @@ struct Tally {
 
 fn count_events(log: &[u64], n: usize) -> Tally
     requires { ⌜ (2 * n ≤ length (now log)) × (n ≤ 65535) ⌝ }
-    ensures { λ r. ⌜ (r .length ≡ length (linesFrom 1 (answersIn (now (log .entry)) n))) × (r .ok ≡ okCount (answersIn (now (log .entry)) n)) ⌝ }
+    ensures { λ r. ⌜ (r .length ≡ length (linesFrom 1 (answersIn (now (log .entry)) n)))
+        × (r .ok ≡ okCount (answersIn (now (log .entry)) n)) ⌝ }
 {
     let mut length: usize = 0;
     let mut ok: u64 = 0;
@@ -229,7 +230,8 @@ fn add_end_line(buffer: &mut [u8], at: usize, events: u64, ok: u64, refused: u64
 // The text of a run whose answers stand in a log.
 fn print_log(buffer: &mut [u8], log: &[u64], n: u16) -> Written
     requires { ⌜ 2 * n ≤ length (now log) ⌝ }
-    ensures { λ r. ⌜ (r ≡ textWritten (runText (answersIn (now (log .entry)) n)) (now (buffer .entry))) × (now (buffer .exit) ≡ afterText (runText (answersIn (now (log .entry)) n)) (now (buffer .entry))) ⌝ }
+    ensures { λ r. ⌜ (r ≡ textWritten (runText (answersIn (now (log .entry)) n)) (now (buffer .entry)))
+        × (now (buffer .exit) ≡ afterText (runText (answersIn (now (log .entry)) n)) (now (buffer .entry))) ⌝ }
 {
     let events = n as usize;
     let counts = count_events(log, events);
@@ -245,7 +247,8 @@ fn print_log(buffer: &mut [u8], log: &[u64], n: u16) -> Written
 
 // The text of a refused schedule: 18 bytes of words, and the number.
 fn print_refusal(buffer: &mut [u8], no: u8) -> Written
-    ensures { λ r. ⌜ (r ≡ textWritten (refusedText no) (now (buffer .entry))) × (now (buffer .exit) ≡ afterText (refusedText no) (now (buffer .entry))) ⌝ }
+    ensures { λ r. ⌜ (r ≡ textWritten (refusedText no) (now (buffer .entry)))
+        × (now (buffer .exit) ≡ afterText (refusedText no) (now (buffer .entry))) ⌝ }
 {
     let number = no as u64;
     if buffer.len() < 18 + text::decimal_width(number) {
@@ -262,8 +265,10 @@ const MOST_ANSWERS: usize = 8_192;
 
 // The text of a run from fresh.
 fn print_run(buffer: &mut [u8], events: &[u64], header: Header) -> Written
-    requires { ⌜ (sizesInRange (header .sizes) ≡ true) × ((header .events ≤ mostEvents) × (3 * header .events ≤ length (now events))) ⌝ }
-    ensures { λ r. ⌜ (r ≡ textWritten (textOfRun (header .sizes) (now (events .entry)) (header .events)) (now (buffer .entry))) × (now (buffer .exit) ≡ afterText (textOfRun (header .sizes) (now (events .entry)) (header .events)) (now (buffer .entry))) ⌝ }
+    requires { ⌜ (sizesInRange (header .sizes) ≡ true)
+        × ((header .events ≤ mostEvents) × (3 * header .events ≤ length (now events))) ⌝ }
+    ensures { λ r. ⌜ (r ≡ textWritten (textOfRun (header .sizes) (now (events .entry)) (header .events)) (now (buffer .entry)))
+        × (now (buffer .exit) ≡ afterText (textOfRun (header .sizes) (now (events .entry)) (header .events)) (now (buffer .entry))) ⌝ }
 {
     let mut log: [u64; MOST_ANSWERS] = [0; MOST_ANSWERS];
     machine::calls::whole_run(header.sizes, events, &mut log, header.events);
@@ -272,7 +277,9 @@ fn print_run(buffer: &mut [u8], events: &[u64], header: Header) -> Written
 
 // What the bytes of a schedule print: the text goes into the buffer, and its length is answered.
 pub fn print(buffer: &mut [u8], bytes: &[u8]) -> Written
-    ensures { λ r. ⌜ (r ≡ textWritten (text (now (bytes .entry))) (now (buffer .entry))) × (now (buffer .exit) ≡ afterText (text (now (bytes .entry))) (now (buffer .entry))) × (writtenNo r ≡ textWrittenNo (text (now (bytes .entry))) (now (buffer .entry))) ⌝ }
+    ensures { λ r. ⌜ (r ≡ textWritten (text (now (bytes .entry))) (now (buffer .entry)))
+        × (now (buffer .exit) ≡ afterText (text (now (bytes .entry))) (now (buffer .entry)))
+        × (writtenNo r ≡ textWrittenNo (text (now (bytes .entry))) (now (buffer .entry))) ⌝ }
 {
     let mut room: [u64; MOST_NUMBERS] = [0; MOST_NUMBERS];
     let read = schedule::read_schedule(&mut room, bytes);

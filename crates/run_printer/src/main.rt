@@ -16,7 +16,8 @@ const MOST_OUTPUT: usize = 163_859;
 // Puts the text of the bytes into a buffer that no text is too long for, and gives its length.
 fn print_text(output: &mut [u8], bytes: &[u8]) -> usize
     requires { ⌜ longestText ≤ length (now output) ⌝ }
-    ensures { λ r. ⌜ (r ≡ length (text (now (bytes .entry)))) × (now (output .exit) ≡ sets (now (output .entry)) 0 (text (now (bytes .entry)))) ⌝ }
+    ensures { λ r. ⌜ (r ≡ length (text (now (bytes .entry))))
+        × (now (output .exit) ≡ sets (now (output .entry)) 0 (text (now (bytes .entry)))) ⌝ }
 {
     let printed = printer::print(output, bytes);
     match printed {

@@ -263,7 +263,8 @@ fn check_scans(bytes: &[u8], at: usize, scans: usize) -> Place
 
 // Whether the bytes are a scan table: how many scans it has, or the refusal.
 pub fn check_table(bytes: &[u8]) -> TableRead
-    ensures { λ r. ⌜ (r ≡ tableAnswer (readTable (now (bytes .entry)))) × (tableReadNo r ≡ formNo (readTable (now (bytes .entry)))) ⌝ }
+    ensures { λ r. ⌜ (r ≡ tableAnswer (readTable (now (bytes .entry))))
+        × (tableReadNo r ≡ formNo (readTable (now (bytes .entry)))) ⌝ }
 {
     let size = numbers::read_number(bytes, 0, Limit::Table);
     match size {
@@ -284,7 +285,9 @@ pub fn check_table(bytes: &[u8]) -> TableRead
 
 // Reads a scan table into lent room, four numbers for each scan. A refusal leaves the room as it was; so do the places past the last scan.
 pub fn read_table(room: &mut [u64], bytes: &[u8]) -> TableRead
-    ensures { λ r. ⌜ (r ≡ tableAnswer (intoRoom (readTable (now (bytes .entry))) (now (room .entry)))) × (now (room .exit) ≡ afterRoom (readTable (now (bytes .entry))) (now (room .entry))) × (tableReadNo r ≡ roomNo (readTable (now (bytes .entry))) (now (room .entry))) ⌝ }
+    ensures { λ r. ⌜ (r ≡ tableAnswer (intoRoom (readTable (now (bytes .entry))) (now (room .entry))))
+        × (now (room .exit) ≡ afterRoom (readTable (now (bytes .entry))) (now (room .entry)))
+        × (tableReadNo r ≡ roomNo (readTable (now (bytes .entry))) (now (room .entry))) ⌝ }
 {
     let checked = check_table(bytes);
     match checked {
@@ -309,7 +312,9 @@ pub fn read_table(room: &mut [u64], bytes: &[u8]) -> TableRead
 
 // Writes the table of whole scans, four numbers for each. A refusal leaves the buffer as it was; so do the bytes past the text.
 pub fn write_table(buffer: &mut [u8], fields: &[u64]) -> Written
-    ensures { λ r. ⌜ (r ≡ tableWritten (now (fields .entry)) (now (buffer .entry))) × (now (buffer .exit) ≡ afterTable (now (fields .entry)) (now (buffer .entry))) × (writtenNo r ≡ tableWrittenNo (now (fields .entry)) (now (buffer .entry))) ⌝ }
+    ensures { λ r. ⌜ (r ≡ tableWritten (now (fields .entry)) (now (buffer .entry)))
+        × (now (buffer .exit) ≡ afterTable (now (fields .entry)) (now (buffer .entry)))
+        × (writtenNo r ≡ tableWrittenNo (now (fields .entry)) (now (buffer .entry))) ⌝ }
 {
     let no = table_no(fields, true);
     if no != 0 {

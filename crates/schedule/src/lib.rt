@@ -107,7 +107,8 @@ fn check(bytes: &[u8]) -> Checked
 
 // Whether the bytes are a schedule: its six numbers, or the refusal.
 pub fn check_schedule(bytes: &[u8]) -> ScheduleRead
-    ensures { λ r. ⌜ (r ≡ scheduleAnswer (readSchedule (now (bytes .entry)))) × (scheduleReadNo r ≡ formNo (readSchedule (now (bytes .entry)))) ⌝ }
+    ensures { λ r. ⌜ (r ≡ scheduleAnswer (readSchedule (now (bytes .entry))))
+        × (scheduleReadNo r ≡ formNo (readSchedule (now (bytes .entry)))) ⌝ }
 {
     let answer = check(bytes);
     match answer {
@@ -118,7 +119,9 @@ pub fn check_schedule(bytes: &[u8]) -> ScheduleRead
 
 // Reads a schedule into lent room, three numbers for each event. A refusal leaves the room as it was; so do the places past the last event.
 pub fn read_schedule(room: &mut [u64], bytes: &[u8]) -> ScheduleRead
-    ensures { λ r. ⌜ (r ≡ scheduleAnswer (intoRoom (readSchedule (now (bytes .entry))) (now (room .entry)))) × (now (room .exit) ≡ afterRoom (readSchedule (now (bytes .entry))) (now (room .entry))) × (scheduleReadNo r ≡ roomNo (readSchedule (now (bytes .entry))) (now (room .entry))) ⌝ }
+    ensures { λ r. ⌜ (r ≡ scheduleAnswer (intoRoom (readSchedule (now (bytes .entry))) (now (room .entry))))
+        × (now (room .exit) ≡ afterRoom (readSchedule (now (bytes .entry))) (now (room .entry)))
+        × (scheduleReadNo r ≡ roomNo (readSchedule (now (bytes .entry))) (now (room .entry))) ⌝ }
 {
     let answer = check(bytes);
     match answer {
@@ -175,7 +178,9 @@ fn schedule_no(sizes: Sizes, fields: &[u64]) -> u8
 
 // Writes the schedule of a run's sizes and whole events, three numbers for each. A refusal leaves the buffer as it was; so do the bytes past the text.
 pub fn write_schedule(buffer: &mut [u8], sizes: Sizes, fields: &[u64]) -> Written
-    ensures { λ r. ⌜ (r ≡ scheduleWritten sizes (now (fields .entry)) (now (buffer .entry))) × (now (buffer .exit) ≡ afterSchedule sizes (now (fields .entry)) (now (buffer .entry))) × (writtenNo r ≡ scheduleWrittenNo sizes (now (fields .entry)) (now (buffer .entry))) ⌝ }
+    ensures { λ r. ⌜ (r ≡ scheduleWritten sizes (now (fields .entry)) (now (buffer .entry)))
+        × (now (buffer .exit) ≡ afterSchedule sizes (now (fields .entry)) (now (buffer .entry)))
+        × (writtenNo r ≡ scheduleWrittenNo sizes (now (fields .entry)) (now (buffer .entry))) ⌝ }
 {
     let no = schedule_no(sizes, fields);
     if no != 0 {

@@ -67,7 +67,8 @@ fn better_of(found: Newest, seen: Seen) -> Newest
 
 // A scan of a table, where it is of the set and has the tag.
 fn consider(fields: &[u64], found: Newest, number: ScanId, set: Scans, tag: u64) -> Newest
-    ensures { λ r. ⌜ r ≡ (if isCandidate (seenAt (now (fields .entry)) (number .0)) set tag then better found (seenAt (now (fields .entry)) (number .0)) else found) ⌝ }
+    ensures { λ r. ⌜ r ≡ (if isCandidate (seenAt (now (fields .entry)) (number .0)) set tag
+        then better found (seenAt (now (fields .entry)) (number .0)) else found) ⌝ }
 {
     let scan = scan_table::scan_at(fields, number);
     if scan.tag != tag {
@@ -122,7 +123,8 @@ fn ask_of(fields: &[u64], scans: u16, set: Scans, tag: u64) -> Shelf
 
 // Where the crate of a tag is, by a set of scans of a table that has been read.
 pub fn where_is(fields: &[u64], set: Scans, tag: u64) -> Shelf
-    ensures { λ r. ⌜ (r ≡ whereIs (now (fields .entry)) set tag) × (askedNo r ≡ whereIsNo (now (fields .entry)) set tag) ⌝ }
+    ensures { λ r. ⌜ (r ≡ whereIs (now (fields .entry)) set tag)
+        × (askedNo r ≡ whereIsNo (now (fields .entry)) set tag) ⌝ }
 {
     let no = scan_table::table_no(fields, false);
     if no != 0 {
@@ -133,7 +135,8 @@ pub fn where_is(fields: &[u64], set: Scans, tag: u64) -> Shelf
 
 // The same, of a table in its written form.
 pub fn where_is_written(bytes: &[u8], set: Scans, tag: u64) -> Shelf
-    ensures { λ r. ⌜ (r ≡ whereIsWritten (readTable (now (bytes .entry))) set tag) × (askedNo r ≡ whereIsWrittenNo (readTable (now (bytes .entry))) set tag) ⌝ }
+    ensures { λ r. ⌜ (r ≡ whereIsWritten (readTable (now (bytes .entry))) set tag)
+        × (askedNo r ≡ whereIsWrittenNo (readTable (now (bytes .entry))) set tag) ⌝ }
 {
     let mut room = [0u64; MOST_NUMBERS];
     let answer = scan_table::read_table(&mut room, bytes);

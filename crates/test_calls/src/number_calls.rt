@@ -25,7 +25,9 @@ pub extern "C" fn test_read_number(
     value: &mut u64,
     next: &mut usize,
 ) -> u8
-    ensures { λ r. ⌜ (r ≡ readNo (readNumber (limitOf limit) (now (bytes .entry)) at)) × (now (value .exit) ≡ readValue (readNumber (limitOf limit) (now (bytes .entry)) at) (now (value .entry))) × (now (next .exit) ≡ readNext (readNumber (limitOf limit) (now (bytes .entry)) at) (now (next .entry))) ⌝ }
+    ensures { λ r. ⌜ (r ≡ readNo (readNumber (limitOf limit) (now (bytes .entry)) at))
+        × (now (value .exit) ≡ readValue (readNumber (limitOf limit) (now (bytes .entry)) at) (now (value .entry)))
+        × (now (next .exit) ≡ readNext (readNumber (limitOf limit) (now (bytes .entry)) at) (now (next .entry))) ⌝ }
 {
     let answer = numbers::read_number(bytes, at, limit_of(limit));
     match answer {
@@ -53,7 +55,9 @@ pub extern "C" fn test_write_number(
     limit: u32,
     next: &mut usize,
 ) -> u8
-    ensures { λ r. ⌜ (r ≡ numberWrittenNo (limitOf limit) value (now (buffer .entry)) at) × (now (buffer .exit) ≡ afterNumber (limitOf limit) value (now (buffer .entry)) at) × (now (next .exit) ≡ writtenNext (numberWritten (limitOf limit) value (now (buffer .entry)) at) (now (next .entry))) ⌝ }
+    ensures { λ r. ⌜ (r ≡ numberWrittenNo (limitOf limit) value (now (buffer .entry)) at)
+        × (now (buffer .exit) ≡ afterNumber (limitOf limit) value (now (buffer .entry)) at)
+        × (now (next .exit) ≡ writtenNext (numberWritten (limitOf limit) value (now (buffer .entry)) at) (now (next .entry))) ⌝ }
 {
     let answer = numbers::write_number(buffer, at, value, limit_of(limit));
     match answer {

@@ -11,7 +11,9 @@ use sizes::Sizes;
 // The six numbers of the header go to `header`.
 #[no_mangle]
 pub extern "C" fn test_read_schedule(room: &mut [u64], bytes: &[u8], header: &mut [u16; 6]) -> u8
-    ensures { λ r. ⌜ (r ≡ roomNo (readSchedule (now (bytes .entry))) (now (room .entry))) × (now (room .exit) ≡ afterRoom (readSchedule (now (bytes .entry))) (now (room .entry))) × (now (header .exit) ≡ scheduleHeader (scheduleAnswer (intoRoom (readSchedule (now (bytes .entry))) (now (room .entry)))) (now (header .entry))) ⌝ }
+    ensures { λ r. ⌜ (r ≡ roomNo (readSchedule (now (bytes .entry))) (now (room .entry)))
+        × (now (room .exit) ≡ afterRoom (readSchedule (now (bytes .entry))) (now (room .entry)))
+        × (now (header .exit) ≡ scheduleHeader (scheduleAnswer (intoRoom (readSchedule (now (bytes .entry))) (now (room .entry)))) (now (header .entry))) ⌝ }
 {
     let answer = schedule::read_schedule(room, bytes);
     match answer {
@@ -38,7 +40,9 @@ pub extern "C" fn test_write_schedule(
     sizes: &[u16; 5],
     next: &mut usize,
 ) -> u8
-    ensures { λ r. ⌜ (r ≡ scheduleWrittenNo (sizesOf (now (sizes .entry))) (now (fields .entry)) (now (buffer .entry))) × (now (buffer .exit) ≡ afterSchedule (sizesOf (now (sizes .entry))) (now (fields .entry)) (now (buffer .entry))) × (now (next .exit) ≡ writtenNext (scheduleWritten (sizesOf (now (sizes .entry))) (now (fields .entry)) (now (buffer .entry))) (now (next .entry))) ⌝ }
+    ensures { λ r. ⌜ (r ≡ scheduleWrittenNo (sizesOf (now (sizes .entry))) (now (fields .entry)) (now (buffer .entry)))
+        × (now (buffer .exit) ≡ afterSchedule (sizesOf (now (sizes .entry))) (now (fields .entry)) (now (buffer .entry)))
+        × (now (next .exit) ≡ writtenNext (scheduleWritten (sizesOf (now (sizes .entry))) (now (fields .entry)) (now (buffer .entry))) (now (next .entry))) ⌝ }
 {
     let z = Sizes {
         proposers: sizes[0],

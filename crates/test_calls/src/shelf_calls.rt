@@ -26,7 +26,8 @@ fn told(answer: Shelf, numbers: &mut [u64; 4]) -> u8
 
 #[no_mangle]
 pub extern "C" fn test_where_is(fields: &[u64], set: u64, tag: u64, numbers: &mut [u64; 4]) -> u8
-    ensures { λ r. ⌜ (r ≡ whereIsNo (now (fields .entry)) (scansOf set) tag) × (now (numbers .exit) ≡ shelfNumbers (whereIs (now (fields .entry)) (scansOf set) tag) (now (numbers .entry))) ⌝ }
+    ensures { λ r. ⌜ (r ≡ whereIsNo (now (fields .entry)) (scansOf set) tag)
+        × (now (numbers .exit) ≡ shelfNumbers (whereIs (now (fields .entry)) (scansOf set) tag) (now (numbers .entry))) ⌝ }
 {
     let answer = shelf::where_is(fields, Scans::of_first_word(set), tag);
     told(answer, numbers)
@@ -39,7 +40,8 @@ pub extern "C" fn test_where_is_written(
     tag: u64,
     numbers: &mut [u64; 4],
 ) -> u8
-    ensures { λ r. ⌜ (r ≡ whereIsWrittenNo (readTable (now (bytes .entry))) (scansOf set) tag) × (now (numbers .exit) ≡ shelfNumbers (whereIsWritten (readTable (now (bytes .entry))) (scansOf set) tag) (now (numbers .entry))) ⌝ }
+    ensures { λ r. ⌜ (r ≡ whereIsWrittenNo (readTable (now (bytes .entry))) (scansOf set) tag)
+        × (now (numbers .exit) ≡ shelfNumbers (whereIsWritten (readTable (now (bytes .entry))) (scansOf set) tag) (now (numbers .entry))) ⌝ }
 {
     let answer = shelf::where_is_written(bytes, Scans::of_first_word(set), tag);
     told(answer, numbers)

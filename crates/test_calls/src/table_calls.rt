@@ -8,7 +8,9 @@ use scan_table::TableRead;
 
 #[no_mangle]
 pub extern "C" fn test_read_table(room: &mut [u64], bytes: &[u8], scans: &mut usize) -> u8
-    ensures { λ r. ⌜ (r ≡ roomNo (readTable (now (bytes .entry))) (now (room .entry))) × (now (room .exit) ≡ afterRoom (readTable (now (bytes .entry))) (now (room .entry))) × (now (scans .exit) ≡ tableScans (tableAnswer (intoRoom (readTable (now (bytes .entry))) (now (room .entry)))) (now (scans .entry))) ⌝ }
+    ensures { λ r. ⌜ (r ≡ roomNo (readTable (now (bytes .entry))) (now (room .entry)))
+        × (now (room .exit) ≡ afterRoom (readTable (now (bytes .entry))) (now (room .entry)))
+        × (now (scans .exit) ≡ tableScans (tableAnswer (intoRoom (readTable (now (bytes .entry))) (now (room .entry)))) (now (scans .entry))) ⌝ }
 {
     let answer = scan_table::read_table(room, bytes);
     match answer {
@@ -22,7 +24,9 @@ pub extern "C" fn test_read_table(room: &mut [u64], bytes: &[u8], scans: &mut us
 
 #[no_mangle]
 pub extern "C" fn test_write_table(buffer: &mut [u8], fields: &[u64], next: &mut usize) -> u8
-    ensures { λ r. ⌜ (r ≡ tableWrittenNo (now (fields .entry)) (now (buffer .entry))) × (now (buffer .exit) ≡ afterTable (now (fields .entry)) (now (buffer .entry))) × (now (next .exit) ≡ writtenNext (tableWritten (now (fields .entry)) (now (buffer .entry))) (now (next .entry))) ⌝ }
+    ensures { λ r. ⌜ (r ≡ tableWrittenNo (now (fields .entry)) (now (buffer .entry)))
+        × (now (buffer .exit) ≡ afterTable (now (fields .entry)) (now (buffer .entry)))
+        × (now (next .exit) ≡ writtenNext (tableWritten (now (fields .entry)) (now (buffer .entry))) (now (next .entry))) ⌝ }
 {
     let answer = scan_table::write_table(buffer, fields);
     match answer {

@@ -8,7 +8,9 @@ use Rattle.yazhmandu.specs.Calls.{whereIsBytes}
 
 -- a call on a table, a set and a tag, that gave r and left `found` where `old` stood: the promise of ymd_where_is
 abbrev pub WhereIsCall : List ℕ → List ℕ → ℕ → List ℕ → ℕ → List ℕ → Type 0
-WhereIsCall table set tag old r found = (r ≡ askedNo (whereIsBytes table set tag)) × (found ≡ shelfNumbers (whereIsBytes table set tag) old)
+WhereIsCall table set tag old r found =
+    (r ≡ askedNo (whereIsBytes table set tag))
+    × (found ≡ shelfNumbers (whereIsBytes table set tag) old)
 
 -- it was not refused, and a scan is shown
 abbrev pub ShowsScan : ℕ → List ℕ → Type 0

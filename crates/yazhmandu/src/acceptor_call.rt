@@ -17,7 +17,9 @@ pub extern "C" fn ymd_answer_proposal(
     set: &[u8],
     reply: &mut [u8; 9],
 ) -> u8
-    ensures { λ r. ⌜ (r ≡ proposalNo scans (now (kept .entry)) (now (set .entry))) × (now (kept .exit) ≡ answerRecord scans (now (kept .entry)) (now (set .entry))) × (now (reply .exit) ≡ answerReply scans (now (kept .entry)) (now (set .entry)) (now (reply .entry))) ⌝ }
+    ensures { λ r. ⌜ (r ≡ proposalNo scans (now (kept .entry)) (now (set .entry)))
+        × (now (kept .exit) ≡ answerRecord scans (now (kept .entry)) (now (set .entry)))
+        × (now (reply .exit) ≡ answerReply scans (now (kept .entry)) (now (set .entry)) (now (reply .entry))) ⌝ }
 {
     if !is_acceptor(kept, scans) {
         return 1;

@@ -25,7 +25,9 @@ pub extern "C" fn ymd_hear(
     set: &[u8],
     learns: &mut u8,
 ) -> u8
-    ensures { λ r. ⌜ (r ≡ hearNo proposers acceptors scans (now (kept .entry)) proposer acceptor number (now (set .entry))) × (now (kept .exit) ≡ hearRecord proposers acceptors scans (now (kept .entry)) proposer acceptor number (now (set .entry))) × (now (learns .exit) ≡ hearLearns proposers acceptors scans (now (kept .entry)) proposer acceptor number (now (set .entry)) (now (learns .entry))) ⌝ }
+    ensures { λ r. ⌜ (r ≡ hearNo proposers acceptors scans (now (kept .entry)) proposer acceptor number (now (set .entry)))
+        × (now (kept .exit) ≡ hearRecord proposers acceptors scans (now (kept .entry)) proposer acceptor number (now (set .entry)))
+        × (now (learns .exit) ≡ hearLearns proposers acceptors scans (now (kept .entry)) proposer acceptor number (now (set .entry)) (now (learns .entry))) ⌝ }
 {
     if !is_learner(kept, proposers, acceptors, scans) {
         return 1;

@@ -14,7 +14,8 @@ use sets::AcceptorId;
 // Buffers the set of a received scan or of an internal message.
 #[no_mangle]
 pub extern "C" fn ymd_buffer(acceptors: u64, scans: u64, kept: &mut [u8], set: &[u8]) -> u8
-    ensures { λ r. ⌜ (r ≡ bufferNo acceptors scans (now (kept .entry)) (now (set .entry))) × (now (kept .exit) ≡ bufferRecord acceptors scans (now (kept .entry)) (now (set .entry))) ⌝ }
+    ensures { λ r. ⌜ (r ≡ bufferNo acceptors scans (now (kept .entry)) (now (set .entry)))
+        × (now (kept .exit) ≡ bufferRecord acceptors scans (now (kept .entry)) (now (set .entry))) ⌝ }
 {
     if !is_proposer(kept, acceptors, scans) {
         return 1;
@@ -39,7 +40,8 @@ pub extern "C" fn ymd_acknowledged(
     acceptor: u64,
     number: u64,
 ) -> u8
-    ensures { λ r. ⌜ (r ≡ acknowledgedNo acceptors scans (now (kept .entry)) acceptor number) × (now (kept .exit) ≡ acknowledgedRecord acceptors scans (now (kept .entry)) acceptor number) ⌝ }
+    ensures { λ r. ⌜ (r ≡ acknowledgedNo acceptors scans (now (kept .entry)) acceptor number)
+        × (now (kept .exit) ≡ acknowledgedRecord acceptors scans (now (kept .entry)) acceptor number) ⌝ }
 {
     if !is_proposer(kept, acceptors, scans) {
         return 1;
@@ -68,7 +70,8 @@ pub extern "C" fn ymd_rejected(
     number: u64,
     set: &[u8],
 ) -> u8
-    ensures { λ r. ⌜ (r ≡ rejectedNo acceptors scans (now (kept .entry)) acceptor number (now (set .entry))) × (now (kept .exit) ≡ rejectedRecord acceptors scans (now (kept .entry)) acceptor number (now (set .entry))) ⌝ }
+    ensures { λ r. ⌜ (r ≡ rejectedNo acceptors scans (now (kept .entry)) acceptor number (now (set .entry)))
+        × (now (kept .exit) ≡ rejectedRecord acceptors scans (now (kept .entry)) acceptor number (now (set .entry))) ⌝ }
 {
     if !is_proposer(kept, acceptors, scans) {
         return 1;
@@ -96,7 +99,8 @@ pub extern "C" fn ymd_rejected(
 // Propose: the number and the set to send stand in the record.
 #[no_mangle]
 pub extern "C" fn ymd_propose(acceptors: u64, scans: u64, kept: &mut [u8]) -> u8
-    ensures { λ r. ⌜ (r ≡ callNo acceptors scans (now (kept .entry)) proposeNo) × (now (kept .exit) ≡ callRecord acceptors scans (now (kept .entry)) proposeNo proposing) ⌝ }
+    ensures { λ r. ⌜ (r ≡ callNo acceptors scans (now (kept .entry)) proposeNo)
+        × (now (kept .exit) ≡ callRecord acceptors scans (now (kept .entry)) proposeNo proposing) ⌝ }
 {
     if !is_proposer(kept, acceptors, scans) {
         return 1;
@@ -113,7 +117,8 @@ pub extern "C" fn ymd_propose(acceptors: u64, scans: u64, kept: &mut [u8]) -> u8
 // Refine: the number and the set to send stand in the record.
 #[no_mangle]
 pub extern "C" fn ymd_refine(acceptors: u64, scans: u64, kept: &mut [u8]) -> u8
-    ensures { λ r. ⌜ (r ≡ callNo acceptors scans (now (kept .entry)) (refineNo acceptors)) × (now (kept .exit) ≡ callRecord acceptors scans (now (kept .entry)) (refineNo acceptors) refining) ⌝ }
+    ensures { λ r. ⌜ (r ≡ callNo acceptors scans (now (kept .entry)) (refineNo acceptors))
+        × (now (kept .exit) ≡ callRecord acceptors scans (now (kept .entry)) (refineNo acceptors) refining) ⌝ }
 {
     if !is_proposer(kept, acceptors, scans) {
         return 1;
@@ -130,7 +135,8 @@ pub extern "C" fn ymd_refine(acceptors: u64, scans: u64, kept: &mut [u8]) -> u8
 // Decide: the decided set stands in the record.
 #[no_mangle]
 pub extern "C" fn ymd_decide(acceptors: u64, scans: u64, kept: &mut [u8]) -> u8
-    ensures { λ r. ⌜ (r ≡ callNo acceptors scans (now (kept .entry)) (decideNo acceptors)) × (now (kept .exit) ≡ callRecord acceptors scans (now (kept .entry)) (decideNo acceptors) deciding) ⌝ }
+    ensures { λ r. ⌜ (r ≡ callNo acceptors scans (now (kept .entry)) (decideNo acceptors))
+        × (now (kept .exit) ≡ callRecord acceptors scans (now (kept .entry)) (decideNo acceptors) deciding) ⌝ }
 {
     if !is_proposer(kept, acceptors, scans) {
         return 1;

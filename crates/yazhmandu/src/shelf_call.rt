@@ -1,7 +1,7 @@
 // The shelf question on a table in its written form. The answer's four numbers are whether a scan is shown (0 or 1), its number, its shelf and its time.
 ghost use mathlib.Core.Path.{_≡_};
-ghost use Rattle.shelf.specs.Shelf.{askedNo, shelfNumbers};
 ghost use Rattle.yazhmandu.specs.Calls.{whereIsBytes};
+ghost use Rattle.yazhmandu.specs.Asking.{WhereIsCall};
 use layouts::fields::SET_SIZE;
 use layouts::fields::set_at;
 use numbers::Refusal;
@@ -24,7 +24,7 @@ fn answer_of(table: &[u8], set: &[u8], tag: u64) -> Shelf
 
 #[no_mangle]
 pub extern "C" fn ymd_where_is(table: &[u8], set: &[u8], tag: u64, found: &mut [u64; 4]) -> u8
-    ensures { λ r. ⌜ (r ≡ askedNo (whereIsBytes (now (table .entry)) (now (set .entry)) tag)) × (now (found .exit) ≡ shelfNumbers (whereIsBytes (now (table .entry)) (now (set .entry)) tag) (now (found .entry))) ⌝ }
+    ensures { λ r. ⌜ WhereIsCall (now (table .entry)) (now (set .entry)) tag (now (found .entry)) r (now (found .exit)) ⌝ }
 {
     let answer = answer_of(table, set, tag);
     match answer {

@@ -110,6 +110,17 @@ LAWS = '''use Rattle.machine.proofs.WalkedLoops.{fits-place}
 use Rattle.machine.proofs.Parts.{behind, item}
 '''
 
+# A walk with these locals as pointers, begun by the place of the proposer.
+def placed(f, pointers, place):
+    w = Field(f)
+    for k in pointers:
+        w.ptr(k)
+    w.parts, w.lines = [], []
+    w.cut()
+    w.call(('lent', 'place_of'), [3], place, 'usize', 'pl')
+    return w
+
+
 # ---- load_ear
 
 f = Function(
@@ -125,12 +136,7 @@ f = Function(
     definitions=DEFINITIONS + [('x₀', 'Ear', 'record { alive = elem .alive; learnt = elem .learnt; heard = if ltb (p .0) 8 then h₀ else unheard }')],
     facts=[],
     uses=(USES, LAWS + 'use Rattle.machine.proofs.Heards.{Within, machined, eight-heard, eight-of, value-at, one-heard, is-alive, is-set, fits-inner, place-below, heard-there}\n'))
-w = Field(f)
-for k in (9, 10, 11, 13, 14):
-    w.ptr(k)
-w.parts, w.lines = [], []
-w.cut()
-w.call(('lent', 'place_of'), [3], 4, 'usize', 'pl')
+w = placed(f, (9, 10, 11, 13, 14), 4)
 w.opens_shared()
 w.element(8, 9)
 w.reads_field(9, 0, 5, 'bool', '(elem .alive)', '(is-alive elem g)')
@@ -159,12 +165,7 @@ f = Function(
     definitions=DEFINITIONS + [('h₁', 'Heard', 'if ltb (p .0) 8 then x .heard else h₀'), ('elem′', 'Learner', 'withEar elem pl x h₁'), ('t′', 'List Learner', 'set t i elem′')],
     facts=[],
     uses=(USES, LAWS + 'use Rattle.machine.proofs.Heards.{Within, shaped, withEar, machined, eight-heard, eight-of, value-at, one-heard, machined-set, is-ear, ear-learnt, fits-inner, place-below, held-there}\n'))
-w = Field(f)
-for k in (9, 11, 12, 14, 15, 16, 17, 18):
-    w.ptr(k)
-w.parts, w.lines = [], []
-w.cut()
-w.call(('lent', 'place_of'), [3], 5, 'usize', 'pl')
+w = placed(f, (9, 11, 12, 14, 15, 16, 17, 18), 5)
 w.opens()
 w.element(8, 9)
 w.heard(9, 5, 10, 11, 12)

@@ -141,6 +141,18 @@ w.write()
 
 # an acceptor, an acting proposer
 
+# What is left goes into the slot, what is to be sent into the table, and the reply is given: the event is parameter e, after it the slot's number and the message; the decision is local f, what the slot holds `slot`, and the table is lent by the locals from `lends` on.
+def sends(w, table, e, f, slot, unit, lends):
+    w.call(step('slot_in'), [f, e + 2], slot, 'Message', 'm′')
+    w.lent(lent('store_message'), table, lends, lends + 1, [e + 1, slot], unit, 't₁', 'in-k')
+    w.cut()
+    w.call(step('send_in'), [f], slot + 1, 'Send', '(f .change .send)')
+    w.lent(lent('send_all'), table, lends + 2, lends + 3, [slot + 1], unit, 't′', 'ready')
+    w.cut()
+    w.call(arms('reply'), [e, f], 0, 'Answer', 'r₀')
+    w.write()
+
+
 def party(name, number, struct, short, slice, lists, at, records):
     """A party that decides and sends: its record in slice, found at the place p."""
     own = struct.lower()
@@ -167,14 +179,7 @@ def party(name, number, struct, short, slice, lists, at, records):
     w.call(step(own + '_in'), [13], 14, struct, '(f .change .%s)' % own)
     w.lent(lent('store_' + own), 0, 22, 23, [8, 14], 21, 'own′', 'in-p')
     w.cut()
-    w.call(step('slot_in'), [13, 6], 15, 'Message', 'm′')
-    w.lent(lent('store_message'), 1, 24, 25, [5, 15], 21, 't₁', 'in-k')
-    w.cut()
-    w.call(step('send_in'), [13], 16, 'Send', '(f .change .send)')
-    w.lent(lent('send_all'), 1, 26, 27, [16], 21, 't′', 'ready')
-    w.cut()
-    w.call(arms('reply'), [4, 13], 0, 'Answer', 'r₀')
-    w.write()
+    sends(w, 1, 4, 13, 15, 21, 24)
 
 
 party('acceptor', 2, 'Acceptor', 'c', 'acs', '[] acs []', 'acceptorAt', 'freshProposer c')
@@ -196,11 +201,4 @@ w.cut()
 w.shared(lent('room'), 0, 12, 13, [7], 8, 'u8', '(lacking (d .need) t)')
 w.call(step('finish_table'), [6, 8], 9, 'Decision', 'f')
 w.cut()
-w.call(step('slot_in'), [9, 5], 10, 'Message', 'm′')
-w.lent(lent('store_message'), 0, 15, 16, [4, 10], 14, 't₁', 'in-k')
-w.cut()
-w.call(step('send_in'), [9], 11, 'Send', '(f .change .send)')
-w.lent(lent('send_all'), 0, 17, 18, [11], 14, 't′', 'ready')
-w.cut()
-w.call(arms('reply'), [3, 9], 0, 'Answer', 'r₀')
-w.write()
+sends(w, 0, 3, 9, 10, 14, 15)

@@ -315,6 +315,25 @@ pub fn where_is_written(bytes: &[u8], set: u64, tag: u64, answer: &mut [u64; 4])
     unsafe { c::test_where_is_written(bytes.as_ptr(), bytes.len(), set, tag, answer.as_mut_ptr()) }
 }
 
+/// A call on the records and slots of a run, each slice by its pointer and its
+/// length, and on what else it takes.
+macro_rules! on_records {
+    ($call:path, $sizes:expr, $proposers:expr, $acceptors:expr, $learners:expr, $slots:expr $(, $more:expr)*) => {
+        $call(
+            $sizes,
+            $proposers.as_mut_ptr(),
+            $proposers.len(),
+            $acceptors.as_mut_ptr(),
+            $acceptors.len(),
+            $learners.as_mut_ptr(),
+            $learners.len(),
+            $slots.as_mut_ptr(),
+            $slots.len(),
+            $($more),*
+        )
+    };
+}
+
 /// Makes the records and slots those of a fresh run.
 pub fn fresh(
     sizes: Sizes,
@@ -327,16 +346,13 @@ pub fn fresh(
     // slice's pointer as its length says at most; all four are borrowed for
     // the call. A flag can only be given as 0 or 1.
     unsafe {
-        c::machine_fresh(
+        on_records!(
+            c::machine_fresh,
             sizes,
-            proposers.as_mut_ptr(),
-            proposers.len(),
-            acceptors.as_mut_ptr(),
-            acceptors.len(),
-            learners.as_mut_ptr(),
-            learners.len(),
-            slots.as_mut_ptr(),
-            slots.len(),
+            proposers,
+            acceptors,
+            learners,
+            slots
         )
     }
 }
@@ -354,17 +370,14 @@ pub fn step(
     // slice's pointer as its length says at most; all four are borrowed for the
     // call. A flag can only be given as 0 or 1.
     unsafe {
-        c::machine_step(
+        on_records!(
+            c::machine_step,
             sizes,
-            proposers.as_mut_ptr(),
-            proposers.len(),
-            acceptors.as_mut_ptr(),
-            acceptors.len(),
-            learners.as_mut_ptr(),
-            learners.len(),
-            slots.as_mut_ptr(),
-            slots.len(),
-            event,
+            proposers,
+            acceptors,
+            learners,
+            slots,
+            event
         )
     }
 }
@@ -387,21 +400,18 @@ pub fn run(
     // events so; all six are borrowed for the call. A flag can only be given
     // as 0 or 1.
     unsafe {
-        c::machine_run(
+        on_records!(
+            c::machine_run,
             sizes,
-            proposers.as_mut_ptr(),
-            proposers.len(),
-            acceptors.as_mut_ptr(),
-            acceptors.len(),
-            learners.as_mut_ptr(),
-            learners.len(),
-            slots.as_mut_ptr(),
-            slots.len(),
+            proposers,
+            acceptors,
+            learners,
+            slots,
             events.as_ptr(),
             events.len(),
             log.as_mut_ptr(),
             log.len(),
-            n,
+            n
         )
     }
 }

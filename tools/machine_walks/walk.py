@@ -312,14 +312,17 @@ class Walk:
         return '%s ! %d refl' % ('store' if d in self.value else 'init', self.f.place(d))
 
     def lands(self, d, t, v, g):
-        self.say('land ! (from ! (stop !)) (%s %s) $' % (self.into(d), self.f.typed(t, v, g)))
+        if d in self.value:
+            self.say('land ! (from ! (stop !)) (%s %s) $' % (self.into(d), self.f.typed(t, v, g)))
+        else:
+            self.say('land-in ! %d refl %s $' % (self.f.place(d), self.f.typed(t, v, g)))
         self.sets(d, self.f.value_of(t, v))
         self.known[d] = (t, v, g)
 
     def operands(self, xs, off):
         r = '(no-more !)'
         for x in reversed(xs):
-            r = '(and-then ! (reads ! (from ! (stop !)) (look ! %d refl)) %s)' % (self.f.place(x) + off, r)
+            r = '(and-local ! %d refl %s)' % (self.f.place(x) + off, r)
         return r
 
     def cite(self, f):
@@ -354,11 +357,8 @@ class Walk:
 
     def borrow(self, s, r, w):
         """The slice s lent: its pointer in the local r, and the slice in the local w."""
-        at = self.f.place(self.f.slices[s][0])
-        self.say('assigns ! (addr ! (from ! (fld ! refl (hop ! (look-in ! %d (sub ! 0 refl (whole !))) (stop !))))) (from ! (stop !)) (%s (tt, tt)) $' % (at, self.into(r)))
+        self.say('lends-again ! %d %d %d refl refl refl refl (tt, tt) refl refl (tt, (tt, (record { fits = room%s .0 }, tt))) refl $' % (self.f.place(self.f.slices[s][0]), self.f.place(r), self.f.place(w), sub(s)))
         self.sets(r, '(vptr b{0} o{0})'.format(sub(s)))
-        self.say('assigns ! (agg ! (and-then ! (reads ! (from ! (stop !)) (look ! %d refl)) (and-then ! (reads ! (from ! (fld ! refl (stop !))) (look-in ! %d (sub ! 1 refl (whole !)))) (no-more !)))) (from ! (stop !)) (%s (tt, (tt, (record { fits = room%s .0 }, tt)))) $' % (
-            self.f.place(r), at, self.into(w), sub(s)))
         self.sets(w, 's' + sub(s))
         self.borrowed[w] = s
 
@@ -465,7 +465,7 @@ use contract.Monad.{Fun, fact, factI, fact-mono}
 use contract.Running.{givenOf, tables, tablesOf}
 use types.Kit.{Given, Item, ‵, _⊛_, ⋆, runs, anyQ, atRet, Sq, _$_, _∵_, !, qed, by, move, keep, split, join, fsplit, fjoin, feqI, suffices, frame, done}
 use types.Part.{agg, rep, whole, sub, look-in}
-use types.Run.{look, init, store, forget, stop, hop, fld, from, load as reads, lit, unit-lit, addr, of-opd, bin, and-then, no-more, assigns, assigns-last, land, first, blocks, returns, enter, alloc1, alloc0, params1, pass1, pass0, exec, Below, again, loops}
+use types.Run.{look, init, store, forget, stop, hop, fld, from, load as reads, lit, unit-lit, addr, of-opd, bin, and-then, no-more, assigns, assigns-last, land, first, blocks, returns, enter, params1, pass1, pass0, exec, Below, again, loops}
 use sound.WpLaws.{FmC, fmOf, WpFn-mono}
 use denote.RattleType.{owns}
 use denote.Laws.{Is, Makes}
@@ -486,7 +486,8 @@ use denote.Triple.Table.{entered, cited}
 use denote.Triple.Walked.{says, needs, Stays, stay-none, stay-none-slice, stay-slice, walkOf, goes-none, goes-none-slice, goes-slice, Walks, ends-at, walked, walk-meets}
 use denote.Exit.{yes}'''
 
-LAWS = '''use Rattle.machine.proofs.Frees.{full, bare, dies-apart, frees-all}
+LAWS = '''use Rattle.machine.proofs.Frees.{full, bare, allocates, frees-all}
+use Rattle.machine.proofs.Moves.{and-local, land-in, lends-again}
 use Rattle.machine.proofs.Relending.{Slice, listAt}
 use Rattle.machine.proofs.CallsByValue.{calls-value}
 use Rattle.machine.proofs.CallsWithSlices.{passed, lent, handed, calls}
@@ -575,15 +576,15 @@ def entry(f, lifetimes, shares, given, locations, then):
     return '''    walk : ent 𝓤 (onEntry 𝓤 H A this.signature {lifetimes} {shares} {given} at) (WpFn 𝓤 H C Λ code.function ({args}) Post)
     walk =
         qed W (({tokens} ⊛ ‵ ftrue) ∷ ‵ (owns ({rows}) {given} at) ∷ []) ∵ enter ! C Λ code.function ({args}) _ $
-        {allocs}alloc0 ! $ dies-apart ! {count} $ params1 ! $
+        allocates ! (λ {locations}. params1 ! $
         {passed} pass0 ! $
         move ! ({all_owned} ∷ []) $ {owned} $
         move ! ({all_tokens} ∷ []) $ {split} $
-        keep ! {kept} $ {then}{closing}
+        keep ! {kept} $ {then})
 '''.format(lifetimes=lifetimes, shares=shares, given=given, args=args, rows=rows, tokens=' ⊛ '.join('‵ (flft κ{0} q{0})'.format(sub(k)) for k in range(len(slices))),
-           allocs=''.join('alloc1 ! (λ l%s. ' % sub(k) for k in range(n)), count=n, passed=' '.join(passed), all_owned=n + 2, all_tokens=n + 1 + owns,
+           locations=locations, passed=' '.join(passed), all_owned=n + 2, all_tokens=n + 1 + owns,
            owned=' $ move ! (1 ∷ []) $ '.join(['fsplit !'] * slices[-1]), split=' $ move ! (1 ∷ []) $ '.join(['split !'] * len(slices)),
-           kept=listed(kept + list(range(len(there) + 1, len(there) + 1 + n)) + [len(there)]), then='\n        '.join(then), closing=')' * n)
+           kept=listed(kept + list(range(len(there) + 1, len(there) + 1 + n)) + [len(there)]), then='\n        '.join(then))
 
 
 def proof(f, w):

@@ -1,5 +1,6 @@
 pub mod Frees
 pub mod Relending
+pub mod Moves
 pub mod CallsByValue
 pub mod CallsWithSlices
 pub mod Filling

@@ -18,8 +18,8 @@ use ghost.Atoms.{Atoms}
 use contract.Monad.{Fun, fact, factI, fact-mono}
 use contract.Running.{givenOf, tables, tablesOf}
 use types.Kit.{Given, Item, ‵, _⊛_, ⋆, runs, atRet, Sq, _$_, _∵_, !, qed, by, move, keep, split, join, fsplit, fjoin, suffices, frame, done}
-use types.Part.{agg, whole, sub, look-in}
-use types.Run.{look, init, forget, stop, hop, fld, from, load as reads, addr, of-opd, and-then, no-more, assigns, land, returns, enter, alloc1, alloc0, params1, pass1, pass0}
+use types.Part.{whole, sub, look-in}
+use types.Run.{look, init, forget, stop, fld, from, load as reads, of-opd, no-more, assigns, returns, enter, params1, pass1, pass0}
 use sound.WpLaws.{FmC, fmOf, WpFn-mono}
 use denote.RattleType.{owns}
 use denote.Laws.{Is, Makes}
@@ -38,7 +38,8 @@ use denote.Triple.Walked.{says, Stays, stay-none, stay-slice, walkOf, goes-none,
 use denote.Exit.{yes}
 use Rattle.model.specs.Records.{freshProposer, freshAcceptor, freshLearner, freeSlot}
 use Rattle.machine.specs.Counting.{turnsOf, sizedNo}
-use Rattle.machine.proofs.Frees.{full, bare, dies-apart, frees-all}
+use Rattle.machine.proofs.Frees.{full, bare, allocates, frees-all}
+use Rattle.machine.proofs.Moves.{and-local, land-in, lends-again}
 use Rattle.machine.proofs.Relending.{Slice, listAt}
 use Rattle.machine.proofs.CallsByValue.{calls-value}
 use Rattle.machine.proofs.CallsLending.{calls-lent}
@@ -254,14 +255,13 @@ module _ {M : Type 1} (𝓤 : URA M) (H : Heap 𝓤) (A : Atoms 𝓤) (W : Given
           ∷ ‵ (froom (sliceTy (tyRef erased mut (pointee (Ms.the-row .written)))) l₂₃ 0) ∷ ‵ (froom (tyRef erased mut (pointee (Ms.the-row .written))) l₂₂ 0) ∷ ‵ (froom (sliceTy (tyRef erased mut (pointee (Le.the-row .written)))) l₂₁ 0) ∷ ‵ (froom (tyRef erased mut (pointee (Le.the-row .written))) l₂₀ 0) ∷ ‵ (froom (sliceTy (tyRef erased mut (pointee (Ac.the-row .written)))) l₁₉ 0) ∷ ‵ (froom (tyRef erased mut (pointee (Ac.the-row .written))) l₁₈ 0) ∷ ‵ (froom (sliceTy (tyRef erased mut (pointee (Pr.the-row .written)))) l₁₇ 0) ∷ ‵ (froom (tyRef erased mut (pointee (Pr.the-row .written))) l₁₆ 0) ∷ ‵ (froom tyUnit l₁₅ 0) ∷ ‵ (froom word l₁₄ 0) ∷ ‵ (froom word l₁₃ 0) ∷ ‵ (froom word l₁₂ 0) ∷ ‵ (froom word l₁₁ 0) ∷ ‵ (froom word l₁₀ 0) ∷ ‵ (fat fullShare word l₉ 0 (vint w64 ln)) ∷ ‵ (fat fullShare word l₈ 0 (vint w64 an)) ∷ ‵ (fat fullShare word l₇ 0 (vint w64 pn)) ∷ ‵ (fat fullShare byte l₆ 0 (vint w8 k)) ∷ ‵ (fat fullShare (sliceTy (tyRef (named 3) mut (pointee (Ms.the-row .written)))) l₅ 0 s₃) ∷ ‵ (fat fullShare (sliceTy (tyRef (named 2) mut (pointee (Le.the-row .written)))) l₄ 0 s₂) ∷ ‵ (fat fullShare (sliceTy (tyRef (named 1) mut (pointee (Ac.the-row .written)))) l₃ 0 s₁) ∷ ‵ (fat fullShare (sliceTy (tyRef (named 0) mut (pointee (Pr.the-row .written)))) l₂ 0 s₀) ∷ ‵ (fat fullShare Sz′.mir l₁ 0 (valSz z)) ∷ ‵ (froom byte l₀ 0) ∷ Dies ∷ []) (runs C Λ En pieces.t-18 (atRet En Post))
       part-5 g6 g7 g8 g9 e17 e19 e21 =
           calls-value ! fm (slots-if.signature .params) usize (slots-if.ended .kept) (slots-if.clauses 𝓤 H A mem run) known-slots-if (uint-vals w8, (valsSz, tt)) (uint-makes 𝓤 H A W w8, (makesSz, tt)) (vint w64) (uint-tells w64)
-          (k, (z, tt)) (g6, (gz, tt)) tt (id⊢ 𝓤 (emp 𝓤)) mn (λ r e′. id⊢ 𝓤 (fact 𝓤 (r ≡ mn))) (and-then ! (reads ! (from ! (stop !)) (look ! 26 refl)) (and-then ! (reads ! (from ! (stop !)) (look ! 31 refl)) (no-more !))) (λ g10.
-          land ! (from ! (stop !)) (init ! 21 refl (tt, record { fits = g10 .1 })) $
-          assigns ! (addr ! (from ! (fld ! refl (hop ! (look-in ! 26 (sub ! 0 refl (whole !))) (stop !))))) (from ! (stop !)) (init ! 9 refl (tt, tt)) $
-          assigns ! (agg ! (and-then ! (reads ! (from ! (stop !)) (look ! 9 refl)) (and-then ! (reads ! (from ! (fld ! refl (stop !))) (look-in ! 26 (sub ! 1 refl (whole !)))) (no-more !)))) (from ! (stop !)) (init ! 8 refl (tt, (tt, (record { fits = room₃ .0 }, tt)))) $
+          (k, (z, tt)) (g6, (gz, tt)) tt (id⊢ 𝓤 (emp 𝓤)) mn (λ r e′. id⊢ 𝓤 (fact 𝓤 (r ≡ mn))) (and-local ! 26 refl (and-local ! 31 refl (no-more !))) (λ g10.
+          land-in ! 21 refl (tt, record { fits = g10 .1 }) $
+          lends-again ! 26 9 8 refl refl refl refl (tt, tt) refl refl (tt, (tt, (record { fits = room₃ .0 }, tt))) refl $
           move ! (6 ∷ 7 ∷ []) $
           calls-lent ! fm Ms.the-row (plain (λ _. usize) ∷ []) Nothing (yes, tt) (λ _. vunit) nothing-tells b₃ o₃ n₃ t refl (λ ν. (uint-vals w64, tt)) (λ ν. (uint-makes 𝓤 H A W w64, tt)) (λ ν. (mn, tt)) (λ ν. (g10, tt))
-          (fill-messages.clauses 𝓤 H A mem run) known-fill-messages room₃ tt t′ (λ ν δ. tt) (λ ν δ. factI 𝓤 _ (emp 𝓤) in-m) (λ ν δ r ws. fact-mono 𝓤 (ws .0 ≡ t′) ((r ≡ tt) × (ws .0 ≡ t′)) (λ e′. (refl, e′))) (λ ν δ. (and-then ! (reads ! (from ! (stop !)) (look ! 8 refl)) (and-then ! (reads ! (from ! (stop !)) (look ! 21 refl)) (no-more !)))) (λ _ e23.
-          land ! (from ! (stop !)) (init ! 16 refl (tt, tt)) $
+          (fill-messages.clauses 𝓤 H A mem run) known-fill-messages room₃ tt t′ (λ ν δ. tt) (λ ν δ. factI 𝓤 _ (emp 𝓤) in-m) (λ ν δ r ws. fact-mono 𝓤 (ws .0 ≡ t′) ((r ≡ tt) × (ws .0 ≡ t′)) (λ e′. (refl, e′))) (λ ν δ. (and-local ! 8 refl (and-local ! 21 refl (no-more !)))) (λ _ e23.
+          land-in ! 16 refl (tt, tt) $
           forget ! 16 refl $
           forget ! 9 refl $
           forget ! 8 refl $
@@ -271,14 +271,13 @@ module _ {M : Type 1} (𝓤 : URA M) (H : Heap 𝓤) (A : Atoms 𝓤) (W : Given
           ∷ ‵ (froom (sliceTy (tyRef erased mut (pointee (Ms.the-row .written)))) l₂₃ 0) ∷ ‵ (froom (tyRef erased mut (pointee (Ms.the-row .written))) l₂₂ 0) ∷ ‵ (froom (sliceTy (tyRef erased mut (pointee (Le.the-row .written)))) l₂₁ 0) ∷ ‵ (froom (tyRef erased mut (pointee (Le.the-row .written))) l₂₀ 0) ∷ ‵ (froom (sliceTy (tyRef erased mut (pointee (Ac.the-row .written)))) l₁₉ 0) ∷ ‵ (froom (tyRef erased mut (pointee (Ac.the-row .written))) l₁₈ 0) ∷ ‵ (froom (sliceTy (tyRef erased mut (pointee (Pr.the-row .written)))) l₁₇ 0) ∷ ‵ (froom (tyRef erased mut (pointee (Pr.the-row .written))) l₁₆ 0) ∷ ‵ (froom tyUnit l₁₅ 0) ∷ ‵ (froom word l₁₄ 0) ∷ ‵ (froom word l₁₃ 0) ∷ ‵ (froom word l₁₂ 0) ∷ ‵ (froom word l₁₁ 0) ∷ ‵ (froom word l₁₀ 0) ∷ ‵ (froom word l₉ 0) ∷ ‵ (fat fullShare word l₈ 0 (vint w64 an)) ∷ ‵ (fat fullShare word l₇ 0 (vint w64 pn)) ∷ ‵ (fat fullShare byte l₆ 0 (vint w8 k)) ∷ ‵ (fat fullShare (sliceTy (tyRef (named 3) mut (pointee (Ms.the-row .written)))) l₅ 0 s₃) ∷ ‵ (fat fullShare (sliceTy (tyRef (named 2) mut (pointee (Le.the-row .written)))) l₄ 0 s₂) ∷ ‵ (fat fullShare (sliceTy (tyRef (named 1) mut (pointee (Ac.the-row .written)))) l₃ 0 s₁) ∷ ‵ (fat fullShare (sliceTy (tyRef (named 0) mut (pointee (Pr.the-row .written)))) l₂ 0 s₀) ∷ ‵ (fat fullShare Sz′.mir l₁ 0 (valSz z)) ∷ ‵ (froom byte l₀ 0) ∷ Dies ∷ []) (runs C Λ En pieces.t-14 (atRet En Post))
       part-4 g6 g7 g8 e17 e19 =
           calls-value ! fm (learners-if.signature .params) usize (learners-if.ended .kept) (learners-if.clauses 𝓤 H A mem run) known-learners-if (uint-vals w8, (valsSz, tt)) (uint-makes 𝓤 H A W w8, (makesSz, tt)) (vint w64) (uint-tells w64)
-          (k, (z, tt)) (g6, (gz, tt)) tt (id⊢ 𝓤 (emp 𝓤)) ln (λ r e′. id⊢ 𝓤 (fact 𝓤 (r ≡ ln))) (and-then ! (reads ! (from ! (stop !)) (look ! 26 refl)) (and-then ! (reads ! (from ! (stop !)) (look ! 31 refl)) (no-more !))) (λ g9.
-          land ! (from ! (stop !)) (init ! 22 refl (tt, record { fits = g9 .1 })) $
-          assigns ! (addr ! (from ! (fld ! refl (hop ! (look-in ! 27 (sub ! 0 refl (whole !))) (stop !))))) (from ! (stop !)) (init ! 11 refl (tt, tt)) $
-          assigns ! (agg ! (and-then ! (reads ! (from ! (stop !)) (look ! 11 refl)) (and-then ! (reads ! (from ! (fld ! refl (stop !))) (look-in ! 27 (sub ! 1 refl (whole !)))) (no-more !)))) (from ! (stop !)) (init ! 10 refl (tt, (tt, (record { fits = room₂ .0 }, tt)))) $
+          (k, (z, tt)) (g6, (gz, tt)) tt (id⊢ 𝓤 (emp 𝓤)) ln (λ r e′. id⊢ 𝓤 (fact 𝓤 (r ≡ ln))) (and-local ! 26 refl (and-local ! 31 refl (no-more !))) (λ g9.
+          land-in ! 22 refl (tt, record { fits = g9 .1 }) $
+          lends-again ! 27 11 10 refl refl refl refl (tt, tt) refl refl (tt, (tt, (record { fits = room₂ .0 }, tt))) refl $
           move ! (4 ∷ 5 ∷ []) $
           calls-lent ! fm Le.the-row (plain (λ _. usize) ∷ []) Nothing (yes, tt) (λ _. vunit) nothing-tells b₂ o₂ n₂ ls refl (λ ν. (uint-vals w64, tt)) (λ ν. (uint-makes 𝓤 H A W w64, tt)) (λ ν. (ln, tt)) (λ ν. (g9, tt))
-          (fill-learners.clauses 𝓤 H A mem run) known-fill-learners room₂ tt ls′ (λ ν δ. tt) (λ ν δ. factI 𝓤 _ (emp 𝓤) in-l) (λ ν δ r ws. fact-mono 𝓤 (ws .0 ≡ ls′) ((r ≡ tt) × (ws .0 ≡ ls′)) (λ e′. (refl, e′))) (λ ν δ. (and-then ! (reads ! (from ! (stop !)) (look ! 10 refl)) (and-then ! (reads ! (from ! (stop !)) (look ! 22 refl)) (no-more !)))) (λ _ e21.
-          land ! (from ! (stop !)) (init ! 16 refl (tt, tt)) $
+          (fill-learners.clauses 𝓤 H A mem run) known-fill-learners room₂ tt ls′ (λ ν δ. tt) (λ ν δ. factI 𝓤 _ (emp 𝓤) in-l) (λ ν δ r ws. fact-mono 𝓤 (ws .0 ≡ ls′) ((r ≡ tt) × (ws .0 ≡ ls′)) (λ e′. (refl, e′))) (λ ν δ. (and-local ! 10 refl (and-local ! 22 refl (no-more !)))) (λ _ e21.
+          land-in ! 16 refl (tt, tt) $
           forget ! 16 refl $
           forget ! 11 refl $
           forget ! 10 refl $
@@ -288,14 +287,13 @@ module _ {M : Type 1} (𝓤 : URA M) (H : Heap 𝓤) (A : Atoms 𝓤) (W : Given
           ∷ ‵ (froom (sliceTy (tyRef erased mut (pointee (Ms.the-row .written)))) l₂₃ 0) ∷ ‵ (froom (tyRef erased mut (pointee (Ms.the-row .written))) l₂₂ 0) ∷ ‵ (froom (sliceTy (tyRef erased mut (pointee (Le.the-row .written)))) l₂₁ 0) ∷ ‵ (froom (tyRef erased mut (pointee (Le.the-row .written))) l₂₀ 0) ∷ ‵ (froom (sliceTy (tyRef erased mut (pointee (Ac.the-row .written)))) l₁₉ 0) ∷ ‵ (froom (tyRef erased mut (pointee (Ac.the-row .written))) l₁₈ 0) ∷ ‵ (froom (sliceTy (tyRef erased mut (pointee (Pr.the-row .written)))) l₁₇ 0) ∷ ‵ (froom (tyRef erased mut (pointee (Pr.the-row .written))) l₁₆ 0) ∷ ‵ (froom tyUnit l₁₅ 0) ∷ ‵ (froom word l₁₄ 0) ∷ ‵ (froom word l₁₃ 0) ∷ ‵ (froom word l₁₂ 0) ∷ ‵ (froom word l₁₁ 0) ∷ ‵ (froom word l₁₀ 0) ∷ ‵ (froom word l₉ 0) ∷ ‵ (froom word l₈ 0) ∷ ‵ (fat fullShare word l₇ 0 (vint w64 pn)) ∷ ‵ (fat fullShare byte l₆ 0 (vint w8 k)) ∷ ‵ (fat fullShare (sliceTy (tyRef (named 3) mut (pointee (Ms.the-row .written)))) l₅ 0 s₃) ∷ ‵ (fat fullShare (sliceTy (tyRef (named 2) mut (pointee (Le.the-row .written)))) l₄ 0 s₂) ∷ ‵ (fat fullShare (sliceTy (tyRef (named 1) mut (pointee (Ac.the-row .written)))) l₃ 0 s₁) ∷ ‵ (fat fullShare (sliceTy (tyRef (named 0) mut (pointee (Pr.the-row .written)))) l₂ 0 s₀) ∷ ‵ (fat fullShare Sz′.mir l₁ 0 (valSz z)) ∷ ‵ (froom byte l₀ 0) ∷ Dies ∷ []) (runs C Λ En pieces.t-10 (atRet En Post))
       part-3 g6 g7 e17 =
           calls-value ! fm (acceptors-if.signature .params) usize (acceptors-if.ended .kept) (acceptors-if.clauses 𝓤 H A mem run) known-acceptors-if (uint-vals w8, (valsSz, tt)) (uint-makes 𝓤 H A W w8, (makesSz, tt)) (vint w64) (uint-tells w64)
-          (k, (z, tt)) (g6, (gz, tt)) tt (id⊢ 𝓤 (emp 𝓤)) an (λ r e′. id⊢ 𝓤 (fact 𝓤 (r ≡ an))) (and-then ! (reads ! (from ! (stop !)) (look ! 26 refl)) (and-then ! (reads ! (from ! (stop !)) (look ! 31 refl)) (no-more !))) (λ g8.
-          land ! (from ! (stop !)) (init ! 23 refl (tt, record { fits = g8 .1 })) $
-          assigns ! (addr ! (from ! (fld ! refl (hop ! (look-in ! 28 (sub ! 0 refl (whole !))) (stop !))))) (from ! (stop !)) (init ! 13 refl (tt, tt)) $
-          assigns ! (agg ! (and-then ! (reads ! (from ! (stop !)) (look ! 13 refl)) (and-then ! (reads ! (from ! (fld ! refl (stop !))) (look-in ! 28 (sub ! 1 refl (whole !)))) (no-more !)))) (from ! (stop !)) (init ! 12 refl (tt, (tt, (record { fits = room₁ .0 }, tt)))) $
+          (k, (z, tt)) (g6, (gz, tt)) tt (id⊢ 𝓤 (emp 𝓤)) an (λ r e′. id⊢ 𝓤 (fact 𝓤 (r ≡ an))) (and-local ! 26 refl (and-local ! 31 refl (no-more !))) (λ g8.
+          land-in ! 23 refl (tt, record { fits = g8 .1 }) $
+          lends-again ! 28 13 12 refl refl refl refl (tt, tt) refl refl (tt, (tt, (record { fits = room₁ .0 }, tt))) refl $
           move ! (2 ∷ 3 ∷ []) $
           calls-lent ! fm Ac.the-row (plain (λ _. usize) ∷ []) Nothing (yes, tt) (λ _. vunit) nothing-tells b₁ o₁ n₁ acs refl (λ ν. (uint-vals w64, tt)) (λ ν. (uint-makes 𝓤 H A W w64, tt)) (λ ν. (an, tt)) (λ ν. (g8, tt))
-          (fill-acceptors.clauses 𝓤 H A mem run) known-fill-acceptors room₁ tt acs′ (λ ν δ. tt) (λ ν δ. factI 𝓤 _ (emp 𝓤) in-a) (λ ν δ r ws. fact-mono 𝓤 (ws .0 ≡ acs′) ((r ≡ tt) × (ws .0 ≡ acs′)) (λ e′. (refl, e′))) (λ ν δ. (and-then ! (reads ! (from ! (stop !)) (look ! 12 refl)) (and-then ! (reads ! (from ! (stop !)) (look ! 23 refl)) (no-more !)))) (λ _ e19.
-          land ! (from ! (stop !)) (init ! 16 refl (tt, tt)) $
+          (fill-acceptors.clauses 𝓤 H A mem run) known-fill-acceptors room₁ tt acs′ (λ ν δ. tt) (λ ν δ. factI 𝓤 _ (emp 𝓤) in-a) (λ ν δ r ws. fact-mono 𝓤 (ws .0 ≡ acs′) ((r ≡ tt) × (ws .0 ≡ acs′)) (λ e′. (refl, e′))) (λ ν δ. (and-local ! 12 refl (and-local ! 23 refl (no-more !)))) (λ _ e19.
+          land-in ! 16 refl (tt, tt) $
           forget ! 16 refl $
           forget ! 13 refl $
           forget ! 12 refl $
@@ -305,13 +303,12 @@ module _ {M : Type 1} (𝓤 : URA M) (H : Heap 𝓤) (A : Atoms 𝓤) (W : Given
           ∷ ‵ (froom (sliceTy (tyRef erased mut (pointee (Ms.the-row .written)))) l₂₃ 0) ∷ ‵ (froom (tyRef erased mut (pointee (Ms.the-row .written))) l₂₂ 0) ∷ ‵ (froom (sliceTy (tyRef erased mut (pointee (Le.the-row .written)))) l₂₁ 0) ∷ ‵ (froom (tyRef erased mut (pointee (Le.the-row .written))) l₂₀ 0) ∷ ‵ (froom (sliceTy (tyRef erased mut (pointee (Ac.the-row .written)))) l₁₉ 0) ∷ ‵ (froom (tyRef erased mut (pointee (Ac.the-row .written))) l₁₈ 0) ∷ ‵ (froom (sliceTy (tyRef erased mut (pointee (Pr.the-row .written)))) l₁₇ 0) ∷ ‵ (froom (tyRef erased mut (pointee (Pr.the-row .written))) l₁₆ 0) ∷ ‵ (froom tyUnit l₁₅ 0) ∷ ‵ (froom word l₁₄ 0) ∷ ‵ (froom word l₁₃ 0) ∷ ‵ (froom word l₁₂ 0) ∷ ‵ (froom word l₁₁ 0) ∷ ‵ (froom word l₁₀ 0) ∷ ‵ (froom word l₉ 0) ∷ ‵ (froom word l₈ 0) ∷ ‵ (froom word l₇ 0) ∷ ‵ (fat fullShare byte l₆ 0 (vint w8 k)) ∷ ‵ (fat fullShare (sliceTy (tyRef (named 3) mut (pointee (Ms.the-row .written)))) l₅ 0 s₃) ∷ ‵ (fat fullShare (sliceTy (tyRef (named 2) mut (pointee (Le.the-row .written)))) l₄ 0 s₂) ∷ ‵ (fat fullShare (sliceTy (tyRef (named 1) mut (pointee (Ac.the-row .written)))) l₃ 0 s₁) ∷ ‵ (fat fullShare (sliceTy (tyRef (named 0) mut (pointee (Pr.the-row .written)))) l₂ 0 s₀) ∷ ‵ (fat fullShare Sz′.mir l₁ 0 (valSz z)) ∷ ‵ (froom byte l₀ 0) ∷ Dies ∷ []) (runs C Λ En pieces.t-6 (atRet En Post))
       part-2 g6 =
           calls-value ! fm (proposers-if.signature .params) usize (proposers-if.ended .kept) (proposers-if.clauses 𝓤 H A mem run) known-proposers-if (uint-vals w8, (valsSz, tt)) (uint-makes 𝓤 H A W w8, (makesSz, tt)) (vint w64) (uint-tells w64)
-          (k, (z, tt)) (g6, (gz, tt)) tt (id⊢ 𝓤 (emp 𝓤)) pn (λ r e′. id⊢ 𝓤 (fact 𝓤 (r ≡ pn))) (and-then ! (reads ! (from ! (stop !)) (look ! 26 refl)) (and-then ! (reads ! (from ! (stop !)) (look ! 31 refl)) (no-more !))) (λ g7.
-          land ! (from ! (stop !)) (init ! 24 refl (tt, record { fits = g7 .1 })) $
-          assigns ! (addr ! (from ! (fld ! refl (hop ! (look-in ! 29 (sub ! 0 refl (whole !))) (stop !))))) (from ! (stop !)) (init ! 15 refl (tt, tt)) $
-          assigns ! (agg ! (and-then ! (reads ! (from ! (stop !)) (look ! 15 refl)) (and-then ! (reads ! (from ! (fld ! refl (stop !))) (look-in ! 29 (sub ! 1 refl (whole !)))) (no-more !)))) (from ! (stop !)) (init ! 14 refl (tt, (tt, (record { fits = room₀ .0 }, tt)))) $
+          (k, (z, tt)) (g6, (gz, tt)) tt (id⊢ 𝓤 (emp 𝓤)) pn (λ r e′. id⊢ 𝓤 (fact 𝓤 (r ≡ pn))) (and-local ! 26 refl (and-local ! 31 refl (no-more !))) (λ g7.
+          land-in ! 24 refl (tt, record { fits = g7 .1 }) $
+          lends-again ! 29 15 14 refl refl refl refl (tt, tt) refl refl (tt, (tt, (record { fits = room₀ .0 }, tt))) refl $
           calls-lent ! fm Pr.the-row (plain (λ _. usize) ∷ []) Nothing (yes, tt) (λ _. vunit) nothing-tells b₀ o₀ n₀ ps refl (λ ν. (uint-vals w64, tt)) (λ ν. (uint-makes 𝓤 H A W w64, tt)) (λ ν. (pn, tt)) (λ ν. (g7, tt))
-          (fill-proposers.clauses 𝓤 H A mem run) known-fill-proposers room₀ tt ps′ (λ ν δ. tt) (λ ν δ. factI 𝓤 _ (emp 𝓤) in-p) (λ ν δ r ws. fact-mono 𝓤 (ws .0 ≡ ps′) ((r ≡ tt) × (ws .0 ≡ ps′)) (λ e′. (refl, e′))) (λ ν δ. (and-then ! (reads ! (from ! (stop !)) (look ! 14 refl)) (and-then ! (reads ! (from ! (stop !)) (look ! 24 refl)) (no-more !)))) (λ _ e17.
-          land ! (from ! (stop !)) (init ! 16 refl (tt, tt)) $
+          (fill-proposers.clauses 𝓤 H A mem run) known-fill-proposers room₀ tt ps′ (λ ν δ. tt) (λ ν δ. factI 𝓤 _ (emp 𝓤) in-p) (λ ν δ r ws. fact-mono 𝓤 (ws .0 ≡ ps′) ((r ≡ tt) × (ws .0 ≡ ps′)) (λ e′. (refl, e′))) (λ ν δ. (and-local ! 14 refl (and-local ! 24 refl (no-more !)))) (λ _ e17.
+          land-in ! 16 refl (tt, tt) $
           forget ! 16 refl $
           forget ! 15 refl $
           forget ! 14 refl $
@@ -325,8 +322,8 @@ module _ {M : Type 1} (𝓤 : URA M) (H : Heap 𝓤) (A : Atoms 𝓤) (W : Given
           assigns ! (of-opd ! (reads ! (from ! (fld ! refl (stop !))) (look-in ! 27 (sub ! 1 refl (whole !))))) (from ! (stop !)) (init ! 18 refl (tt, record { fits = room₂ .0 })) $
           assigns ! (of-opd ! (reads ! (from ! (fld ! refl (stop !))) (look-in ! 26 (sub ! 1 refl (whole !))))) (from ! (stop !)) (init ! 17 refl (tt, record { fits = room₃ .0 })) $
           calls-value ! fm (fresh-no.signature .params) u8 (fresh-no.ended .kept) (fresh-no.clauses 𝓤 H A mem run) known-fresh-no (valsSz, (uint-vals w64, (uint-vals w64, (uint-vals w64, (uint-vals w64, tt))))) (makesSz, (uint-makes 𝓤 H A W w64, (uint-makes 𝓤 H A W w64, (uint-makes 𝓤 H A W w64, (uint-makes 𝓤 H A W w64, tt))))) (vint w8) (uint-tells w8)
-          (z, (n₀, (n₁, (n₂, (n₃, tt))))) (gz, ((refl, room₀ .0), ((refl, room₁ .0), ((refl, room₂ .0), ((refl, room₃ .0), tt))))) tt (id⊢ 𝓤 (emp 𝓤)) k (λ r e′. id⊢ 𝓤 (fact 𝓤 (r ≡ k))) (and-then ! (reads ! (from ! (stop !)) (look ! 31 refl)) (and-then ! (reads ! (from ! (stop !)) (look ! 21 refl)) (and-then ! (reads ! (from ! (stop !)) (look ! 20 refl)) (and-then ! (reads ! (from ! (stop !)) (look ! 19 refl)) (and-then ! (reads ! (from ! (stop !)) (look ! 18 refl)) (no-more !)))))) (λ g6.
-          land ! (from ! (stop !)) (init ! 25 refl (tt, record { fits = g6 .1 })) $
+          (z, (n₀, (n₁, (n₂, (n₃, tt))))) (gz, ((refl, room₀ .0), ((refl, room₁ .0), ((refl, room₂ .0), ((refl, room₃ .0), tt))))) tt (id⊢ 𝓤 (emp 𝓤)) k (λ r e′. id⊢ 𝓤 (fact 𝓤 (r ≡ k))) (and-local ! 31 refl (and-local ! 21 refl (and-local ! 20 refl (and-local ! 19 refl (and-local ! 18 refl (no-more !)))))) (λ g6.
+          land-in ! 25 refl (tt, record { fits = g6 .1 }) $
           forget ! 20 refl $
           forget ! 19 refl $
           forget ! 18 refl $
@@ -336,11 +333,11 @@ module _ {M : Type 1} (𝓤 : URA M) (H : Heap 𝓤) (A : Atoms 𝓤) (W : Given
     walk : ent 𝓤 (onEntry 𝓤 H A this.signature (κ₀, (κ₁, (κ₂, (κ₃, tt)))) (q₀, (q₁, (q₂, (q₃, tt)))) (z, (listAt Pr.the-row b₀ o₀ ps γ₀, (listAt Ac.the-row b₁ o₁ acs γ₁, (listAt Le.the-row b₂ o₂ ls γ₂, (listAt Ms.the-row b₃ o₃ t γ₃, tt))))) at) (WpFn 𝓤 H C Λ code.function (valSz z ∷ s₀ ∷ s₁ ∷ s₂ ∷ s₃ ∷ []) Post)
     walk =
         qed W ((‵ (flft κ₀ q₀) ⊛ ‵ (flft κ₁ q₁) ⊛ ‵ (flft κ₂ q₂) ⊛ ‵ (flft κ₃ q₃) ⊛ ‵ ftrue) ∷ ‵ (owns (Sz.the-row ∷ MutSlice (named 0) κ₀ Pr.the-row ∷ MutSlice (named 1) κ₁ Ac.the-row ∷ MutSlice (named 2) κ₂ Le.the-row ∷ MutSlice (named 3) κ₃ Ms.the-row ∷ []) (z, (listAt Pr.the-row b₀ o₀ ps γ₀, (listAt Ac.the-row b₁ o₁ acs γ₁, (listAt Le.the-row b₂ o₂ ls γ₂, (listAt Ms.the-row b₃ o₃ t γ₃, tt))))) at) ∷ []) ∵ enter ! C Λ code.function (valSz z ∷ s₀ ∷ s₁ ∷ s₂ ∷ s₃ ∷ []) _ $
-        alloc1 ! (λ l₀. alloc1 ! (λ l₁. alloc1 ! (λ l₂. alloc1 ! (λ l₃. alloc1 ! (λ l₄. alloc1 ! (λ l₅. alloc1 ! (λ l₆. alloc1 ! (λ l₇. alloc1 ! (λ l₈. alloc1 ! (λ l₉. alloc1 ! (λ l₁₀. alloc1 ! (λ l₁₁. alloc1 ! (λ l₁₂. alloc1 ! (λ l₁₃. alloc1 ! (λ l₁₄. alloc1 ! (λ l₁₅. alloc1 ! (λ l₁₆. alloc1 ! (λ l₁₇. alloc1 ! (λ l₁₈. alloc1 ! (λ l₁₉. alloc1 ! (λ l₂₀. alloc1 ! (λ l₂₁. alloc1 ! (λ l₂₂. alloc1 ! (λ l₂₃. alloc0 ! $ dies-apart ! 24 $ params1 ! $
+        allocates ! (λ l₀ l₁ l₂ l₃ l₄ l₅ l₆ l₇ l₈ l₉ l₁₀ l₁₁ l₁₂ l₁₃ l₁₄ l₁₅ l₁₆ l₁₇ l₁₈ l₁₉ l₂₀ l₂₁ l₂₂ l₂₃. params1 ! $
         pass1 ! (init ! 23 refl (typedSz z gz)) $ pass1 ! (init ! 22 refl (tt, (tt, (record { fits = room₀ .0 }, tt)))) $ pass1 ! (init ! 21 refl (tt, (tt, (record { fits = room₁ .0 }, tt)))) $ pass1 ! (init ! 20 refl (tt, (tt, (record { fits = room₂ .0 }, tt)))) $ pass1 ! (init ! 19 refl (tt, (tt, (record { fits = room₃ .0 }, tt)))) $ pass0 ! $
         move ! (26 ∷ []) $ fsplit ! $ move ! (1 ∷ []) $ fsplit ! $ move ! (1 ∷ []) $ fsplit ! $ move ! (1 ∷ []) $ fsplit ! $ move ! (1 ∷ []) $ fsplit ! $
         move ! (31 ∷ []) $ split ! $ move ! (1 ∷ []) $ split ! $ move ! (1 ∷ []) $ split ! $ move ! (1 ∷ []) $ split ! $
-        keep ! (9 ∷ 4 ∷ 8 ∷ 3 ∷ 7 ∷ 2 ∷ 5 ∷ 0 ∷ 12 ∷ 13 ∷ 14 ∷ 15 ∷ 16 ∷ 17 ∷ 18 ∷ 19 ∷ 20 ∷ 21 ∷ 22 ∷ 23 ∷ 24 ∷ 25 ∷ 26 ∷ 27 ∷ 28 ∷ 29 ∷ 30 ∷ 31 ∷ 32 ∷ 33 ∷ 34 ∷ 35 ∷ 11 ∷ []) $ part-1 l₀ l₁ l₂ l₃ l₄ l₅ l₆ l₇ l₈ l₉ l₁₀ l₁₁ l₁₂ l₁₃ l₁₄ l₁₅ l₁₆ l₁₇ l₁₈ l₁₉ l₂₀ l₂₁ l₂₂ l₂₃))))))))))))))))))))))))
+        keep ! (9 ∷ 4 ∷ 8 ∷ 3 ∷ 7 ∷ 2 ∷ 5 ∷ 0 ∷ 12 ∷ 13 ∷ 14 ∷ 15 ∷ 16 ∷ 17 ∷ 18 ∷ 19 ∷ 20 ∷ 21 ∷ 22 ∷ 23 ∷ 24 ∷ 25 ∷ 26 ∷ 27 ∷ 28 ∷ 29 ∷ 30 ∷ 31 ∷ 32 ∷ 33 ∷ 34 ∷ 35 ∷ 11 ∷ []) $ part-1 l₀ l₁ l₂ l₃ l₄ l₅ l₆ l₇ l₈ l₉ l₁₀ l₁₁ l₁₂ l₁₃ l₁₄ l₁₅ l₁₆ l₁₇ l₁₈ l₁₉ l₂₀ l₂₁ l₂₂ l₂₃)
 
 module _ {M : Type 1} (𝓤 : URA M) (H : Heap 𝓤) (A : Atoms 𝓤) (W : Given 𝓤 H A) (mem : Memory → SProp 𝓤) (run : Routine → Fun 𝓤) (𝓣 : Tables 𝓤 H) (known-fresh-no : Triple 𝓤 (𝓣 .C #fresh-no) (Of-fresh-no 𝓤 H A mem run)) (known-proposers-if : Triple 𝓤 (𝓣 .C #proposers-if) (Of-proposers-if 𝓤 H A mem run)) (known-fill-proposers : Triple 𝓤 (𝓣 .C #fill-proposers) (Of-fill-proposers 𝓤 H A mem run)) (known-acceptors-if : Triple 𝓤 (𝓣 .C #acceptors-if) (Of-acceptors-if 𝓤 H A mem run)) (known-fill-acceptors : Triple 𝓤 (𝓣 .C #fill-acceptors) (Of-fill-acceptors 𝓤 H A mem run)) (known-learners-if : Triple 𝓤 (𝓣 .C #learners-if) (Of-learners-if 𝓤 H A mem run)) (known-fill-learners : Triple 𝓤 (𝓣 .C #fill-learners) (Of-fill-learners 𝓤 H A mem run)) (known-slots-if : Triple 𝓤 (𝓣 .C #slots-if) (Of-slots-if 𝓤 H A mem run)) (known-fill-messages : Triple 𝓤 (𝓣 .C #fill-messages) (Of-fill-messages 𝓤 H A mem run)) where
   f-walks : Walks 𝓤 H A this.ended stayed (WpFn 𝓤 H (𝓣 .C) (𝓣 .Λ) code.function) (this.clauses 𝓤 H A mem run)

@@ -18,8 +18,8 @@ use ghost.Atoms.{Atoms}
 use contract.Monad.{Fun, fact, factI, fact-mono}
 use contract.Running.{givenOf, tables, tablesOf}
 use types.Kit.{Given, Item, ‵, _⊛_, ⋆, runs, atRet, Sq, _$_, _∵_, !, qed, by, move, keep, split, join, fsplit, fjoin, suffices, frame, done}
-use types.Part.{agg, whole, sub, look-in}
-use types.Run.{look, init, forget, stop, hop, fld, from, load as reads, addr, of-opd, and-then, no-more, assigns, land, returns, enter, alloc1, alloc0, params1, pass1, pass0}
+use types.Part.{whole, sub, look-in}
+use types.Run.{look, init, forget, stop, fld, from, load as reads, of-opd, no-more, assigns, returns, enter, params1, pass1, pass0}
 use sound.WpLaws.{FmC, fmOf, WpFn-mono}
 use denote.RattleType.{owns}
 use denote.Laws.{Is, Makes}
@@ -42,7 +42,8 @@ use Rattle.model.specs.Ranges.{all, proposerInRange, acceptorInRange, learnerIn
 use Rattle.machine.specs.Running.{Ran, driven, Drives}
 use Rattle.machine.specs.Calls.{lent as lent-as, afterRun, logAfterRun}
 use Rattle.machine.specs.Counting.{lengthsAre, eventsNo, soundRunOf, turnsOf}
-use Rattle.machine.proofs.Frees.{full, bare, dies-apart, frees-all}
+use Rattle.machine.proofs.Frees.{full, bare, allocates, frees-all}
+use Rattle.machine.proofs.Moves.{and-local, land-in, lends-again}
 use Rattle.machine.proofs.Relending.{Slice, listAt}
 use Rattle.machine.proofs.CallsByValue.{calls-value}
 use Rattle.machine.proofs.CallsWithSlices.{passed, lent, handed, calls}
@@ -260,16 +261,11 @@ module _ {M : Type 1} (𝓤 : URA M) (H : Heap 𝓤) (A : Atoms 𝓤) (W : Given
       part-6 : (g9 : Is bool all-sized (bool-vals all-sized)) → (g10 : Is bool p (bool-vals p)) → (g11 : Is bool a (bool-vals a)) → (g12 : Is bool l (bool-vals l)) → (g13 : Is bool m (bool-vals m)) → (g14 : Is u8 counted (uint-vals w8 counted)) → (g15 : Is u8 k (uint-vals w8 k)) → (g16 : Is usize i (uint-vals w64 i)) → Sq W (‵ (Slice Ms.the-row κ₃ γ₃ b₃ o₃ n₃ t) ∷ ‵ (flft κ₃ q₃) ∷ ‵ (Slice Le.the-row κ₂ γ₂ b₂ o₂ n₂ ls) ∷ ‵ (flft κ₂ q₂) ∷ ‵ (Slice Ac.the-row κ₁ γ₁ b₁ o₁ n₁ acs) ∷ ‵ (flft κ₁ q₁) ∷ ‵ (Slice Pr.the-row κ₀ γ₀ b₀ o₀ n₀ ps) ∷ ‵ (flft κ₀ q₀) ∷ ‵ (ShrSlice (named 4) κ₄ u64 .own (listAt u64 b₄ o₄ events γ₄) (s₄ ∷ [])) ∷ ‵ (flft κ₄ q₄) ∷ ‵ (Slice u64 κ₅ γ₅ b₅ o₅ n₅ log) ∷ ‵ (flft κ₅ q₅)
           ∷ ‵ (froom (sliceTy (tyRef erased mut (pointee (u64 .written)))) l₃₉ 0) ∷ ‵ (froom (tyRef erased mut (pointee (u64 .written))) l₃₈ 0) ∷ ‵ (froom (sliceTy (tyRef erased mut (pointee (Ms.the-row .written)))) l₃₇ 0) ∷ ‵ (froom (tyRef erased mut (pointee (Ms.the-row .written))) l₃₆ 0) ∷ ‵ (froom (sliceTy (tyRef erased mut (pointee (Le.the-row .written)))) l₃₅ 0) ∷ ‵ (froom (tyRef erased mut (pointee (Le.the-row .written))) l₃₄ 0) ∷ ‵ (froom (sliceTy (tyRef erased mut (pointee (Ac.the-row .written)))) l₃₃ 0) ∷ ‵ (froom (tyRef erased mut (pointee (Ac.the-row .written))) l₃₂ 0) ∷ ‵ (froom (sliceTy (tyRef erased mut (pointee (Pr.the-row .written)))) l₃₁ 0) ∷ ‵ (froom (tyRef erased mut (pointee (Pr.the-row .written))) l₃₀ 0) ∷ ‵ (froom tyUnit l₂₉ 0) ∷ ‵ (froom (sliceTy (tyRef erased imm (pointee (Ms.the-row .written)))) l₂₈ 0) ∷ ‵ (froom (tyRef erased imm (pointee (Ms.the-row .written))) l₂₇ 0) ∷ ‵ (froom (sliceTy (tyRef erased imm (pointee (Le.the-row .written)))) l₂₆ 0) ∷ ‵ (froom (tyRef erased imm (pointee (Le.the-row .written))) l₂₅ 0) ∷ ‵ (froom (sliceTy (tyRef erased imm (pointee (Ac.the-row .written)))) l₂₄ 0) ∷ ‵ (froom (tyRef erased imm (pointee (Ac.the-row .written))) l₂₃ 0) ∷ ‵ (froom (sliceTy (tyRef erased imm (pointee (Pr.the-row .written)))) l₂₂ 0) ∷ ‵ (froom (tyRef erased imm (pointee (Pr.the-row .written))) l₂₁ 0) ∷ ‵ (froom word l₂₀ 0) ∷ ‵ (froom word l₁₉ 0) ∷ ‵ (froom word l₁₈ 0) ∷ ‵ (froom word l₁₇ 0) ∷ ‵ (fat fullShare word l₁₆ 0 (vint w64 i)) ∷ ‵ (fat fullShare byte l₁₅ 0 (vint w8 k)) ∷ ‵ (fat fullShare byte l₁₄ 0 (vint w8 counted)) ∷ ‵ (fat fullShare tyBool l₁₃ 0 (vbool m)) ∷ ‵ (fat fullShare tyBool l₁₂ 0 (vbool l)) ∷ ‵ (fat fullShare tyBool l₁₁ 0 (vbool a)) ∷ ‵ (fat fullShare tyBool l₁₀ 0 (vbool p)) ∷ ‵ (fat fullShare tyBool l₉ 0 (vbool all-sized)) ∷ ‵ (fat fullShare half l₈ 0 (vint w16 n)) ∷ ‵ (fat fullShare (sliceTy (tyRef (named 5) mut (pointee (u64 .written)))) l₇ 0 s₅) ∷ ‵ (fat fullShare (sliceTy (tyRef (named 4) imm (pointee (u64 .written)))) l₆ 0 s₄) ∷ ‵ (fat fullShare (sliceTy (tyRef (named 3) mut (pointee (Ms.the-row .written)))) l₅ 0 s₃) ∷ ‵ (fat fullShare (sliceTy (tyRef (named 2) mut (pointee (Le.the-row .written)))) l₄ 0 s₂) ∷ ‵ (fat fullShare (sliceTy (tyRef (named 1) mut (pointee (Ac.the-row .written)))) l₃ 0 s₁) ∷ ‵ (fat fullShare (sliceTy (tyRef (named 0) mut (pointee (Pr.the-row .written)))) l₂ 0 s₀) ∷ ‵ (fat fullShare Sz′.mir l₁ 0 (valSz z)) ∷ ‵ (froom byte l₀ 0) ∷ Dies ∷ []) (runs C Λ En pieces.t-23 (atRet En Post))
       part-6 g9 g10 g11 g12 g13 g14 g15 g16 =
-          assigns ! (addr ! (from ! (fld ! refl (hop ! (look-in ! 49 (sub ! 0 refl (whole !))) (stop !))))) (from ! (stop !)) (init ! 21 refl (tt, tt)) $
-          assigns ! (agg ! (and-then ! (reads ! (from ! (stop !)) (look ! 21 refl)) (and-then ! (reads ! (from ! (fld ! refl (stop !))) (look-in ! 49 (sub ! 1 refl (whole !)))) (no-more !)))) (from ! (stop !)) (init ! 20 refl (tt, (tt, (record { fits = room₀ .0 }, tt)))) $
-          assigns ! (addr ! (from ! (fld ! refl (hop ! (look-in ! 48 (sub ! 0 refl (whole !))) (stop !))))) (from ! (stop !)) (init ! 19 refl (tt, tt)) $
-          assigns ! (agg ! (and-then ! (reads ! (from ! (stop !)) (look ! 19 refl)) (and-then ! (reads ! (from ! (fld ! refl (stop !))) (look-in ! 48 (sub ! 1 refl (whole !)))) (no-more !)))) (from ! (stop !)) (init ! 18 refl (tt, (tt, (record { fits = room₁ .0 }, tt)))) $
-          assigns ! (addr ! (from ! (fld ! refl (hop ! (look-in ! 47 (sub ! 0 refl (whole !))) (stop !))))) (from ! (stop !)) (init ! 17 refl (tt, tt)) $
-          assigns ! (agg ! (and-then ! (reads ! (from ! (stop !)) (look ! 17 refl)) (and-then ! (reads ! (from ! (fld ! refl (stop !))) (look-in ! 47 (sub ! 1 refl (whole !)))) (no-more !)))) (from ! (stop !)) (init ! 16 refl (tt, (tt, (record { fits = room₂ .0 }, tt)))) $
-          assigns ! (addr ! (from ! (fld ! refl (hop ! (look-in ! 46 (sub ! 0 refl (whole !))) (stop !))))) (from ! (stop !)) (init ! 15 refl (tt, tt)) $
-          assigns ! (agg ! (and-then ! (reads ! (from ! (stop !)) (look ! 15 refl)) (and-then ! (reads ! (from ! (fld ! refl (stop !))) (look-in ! 46 (sub ! 1 refl (whole !)))) (no-more !)))) (from ! (stop !)) (init ! 14 refl (tt, (tt, (record { fits = room₃ .0 }, tt)))) $
-          assigns ! (addr ! (from ! (fld ! refl (hop ! (look-in ! 44 (sub ! 0 refl (whole !))) (stop !))))) (from ! (stop !)) (init ! 13 refl (tt, tt)) $
-          assigns ! (agg ! (and-then ! (reads ! (from ! (stop !)) (look ! 13 refl)) (and-then ! (reads ! (from ! (fld ! refl (stop !))) (look-in ! 44 (sub ! 1 refl (whole !)))) (no-more !)))) (from ! (stop !)) (init ! 12 refl (tt, (tt, (record { fits = room₅ .0 }, tt)))) $
+          lends-again ! 49 21 20 refl refl refl refl (tt, tt) refl refl (tt, (tt, (record { fits = room₀ .0 }, tt))) refl $
+          lends-again ! 48 19 18 refl refl refl refl (tt, tt) refl refl (tt, (tt, (record { fits = room₁ .0 }, tt))) refl $
+          lends-again ! 47 17 16 refl refl refl refl (tt, tt) refl refl (tt, (tt, (record { fits = room₂ .0 }, tt))) refl $
+          lends-again ! 46 15 14 refl refl refl refl (tt, tt) refl refl (tt, (tt, (record { fits = room₃ .0 }, tt))) refl $
+          lends-again ! 44 13 12 refl refl refl refl (tt, tt) refl refl (tt, (tt, (record { fits = room₅ .0 }, tt))) refl $
           move ! (6 ∷ 7 ∷ 4 ∷ 5 ∷ 2 ∷ 3 ∷ 0 ∷ 1 ∷ 8 ∷ 9 ∷ 10 ∷ 11 ∷ []) $
           calls ! fm (passed Sz.the-row valsSz makesSz z gz
           ∷ lent Pr.the-row κ₀ q₀ γ₀ b₀ o₀ n₀ ps (r .proposers) refl room₀
@@ -279,8 +275,8 @@ module _ {M : Type 1} (𝓤 : URA M) (H : Heap 𝓤) (A : Atoms 𝓤) (W : Given
           ∷ handed u64 κ₄ q₄ γ₄ b₄ o₄ events
           ∷ lent u64 κ₅ q₅ γ₅ b₅ o₅ n₅ log (r .log) refl room₅
           ∷ passed usize (uint-vals w64) (uint-makes 𝓤 H A W w64) i g16 ∷ [])
-          Nothing (drive.clauses 𝓤 H A mem run) known-drive (λ _. vunit) nothing-tells tt (λ w. tt) (λ w. factI 𝓤 _ (emp 𝓤) fitting) (λ w v ws. fact-mono 𝓤 ((ws .1 .0 ≡ (r .proposers)) × ((ws .1 .1 .0 ≡ (r .acceptors)) × ((ws .1 .1 .1 .0 ≡ (r .learners)) × ((ws .1 .1 .1 .1 .0 ≡ (r .slots)) × ((ws .1 .1 .1 .1 .1 .1 .0 ≡ (r .log))))))) ((v ≡ tt) × ((ws .1 .0 ≡ (r .proposers)) × ((ws .1 .1 .0 ≡ (r .acceptors)) × ((ws .1 .1 .1 .0 ≡ (r .learners)) × ((ws .1 .1 .1 .1 .0 ≡ (r .slots)) × ((ws .1 .1 .1 .1 .1 .1 .0 ≡ (r .log)))))))) (λ e′. (refl, e′))) (λ w. (and-then ! (reads ! (from ! (stop !)) (look ! 40 refl)) (and-then ! (reads ! (from ! (stop !)) (look ! 10 refl)) (and-then ! (reads ! (from ! (stop !)) (look ! 8 refl)) (and-then ! (reads ! (from ! (stop !)) (look ! 6 refl)) (and-then ! (reads ! (from ! (stop !)) (look ! 4 refl)) (and-then ! (reads ! (from ! (stop !)) (look ! 35 refl)) (and-then ! (reads ! (from ! (stop !)) (look ! 2 refl)) (and-then ! (reads ! (from ! (stop !)) (look ! 25 refl)) (no-more !)))))))))) (λ _ e29.
-          land ! (from ! (stop !)) (init ! 22 refl (tt, tt)) $
+          Nothing (drive.clauses 𝓤 H A mem run) known-drive (λ _. vunit) nothing-tells tt (λ w. tt) (λ w. factI 𝓤 _ (emp 𝓤) fitting) (λ w v ws. fact-mono 𝓤 ((ws .1 .0 ≡ (r .proposers)) × ((ws .1 .1 .0 ≡ (r .acceptors)) × ((ws .1 .1 .1 .0 ≡ (r .learners)) × ((ws .1 .1 .1 .1 .0 ≡ (r .slots)) × ((ws .1 .1 .1 .1 .1 .1 .0 ≡ (r .log))))))) ((v ≡ tt) × ((ws .1 .0 ≡ (r .proposers)) × ((ws .1 .1 .0 ≡ (r .acceptors)) × ((ws .1 .1 .1 .0 ≡ (r .learners)) × ((ws .1 .1 .1 .1 .0 ≡ (r .slots)) × ((ws .1 .1 .1 .1 .1 .1 .0 ≡ (r .log)))))))) (λ e′. (refl, e′))) (λ w. (and-local ! 40 refl (and-local ! 10 refl (and-local ! 8 refl (and-local ! 6 refl (and-local ! 4 refl (and-local ! 35 refl (and-local ! 2 refl (and-local ! 25 refl (no-more !)))))))))) (λ _ e29.
+          land-in ! 22 refl (tt, tt) $
           assigns ! (of-opd ! (reads ! (from ! (stop !)) (look ! 36 refl))) (from ! (stop !)) (init ! 51 refl (tt, record { fits = g15 .1 })) $
           returns ! (look ! 51 refl) $ frees-all ! 12 (full _ _ _ ∷ full _ _ _ ∷ full _ _ _ ∷ full _ _ _ ∷ full _ _ _ ∷ full _ _ _ ∷ full _ _ _ ∷ full _ _ _ ∷ full _ _ _ ∷ full _ _ _ ∷ full _ _ _ ∷ bare _ _ ∷ bare _ _ ∷ bare _ _ ∷ bare _ _ ∷ bare _ _ ∷ bare _ _ ∷ bare _ _ ∷ bare _ _ ∷ bare _ _ ∷ bare _ _ ∷ bare _ _ ∷ bare _ _ ∷ full _ _ _ ∷ full _ _ _ ∷ full _ _ _ ∷ full _ _ _ ∷ full _ _ _ ∷ full _ _ _ ∷ full _ _ _ ∷ full _ _ _ ∷ full _ _ _ ∷ full _ _ _ ∷ full _ _ _ ∷ full _ _ _ ∷ full _ _ _ ∷ full _ _ _ ∷ full _ _ _ ∷ full _ _ _ ∷ full _ _ _ ∷ []) refl refl $
           keep ! (0 ∷ 1 ∷ 2 ∷ 3 ∷ 4 ∷ 5 ∷ 6 ∷ 7 ∷ 8 ∷ 9 ∷ 10 ∷ 11 ∷ []) $ by ! (exits g15 (e29 .0) (e29 .1 .0) (e29 .1 .1 .0) (e29 .1 .1 .1 .0) (e29 .1 .1 .1 .1 .0)))
@@ -289,11 +285,11 @@ module _ {M : Type 1} (𝓤 : URA M) (H : Heap 𝓤) (A : Atoms 𝓤) (W : Given
           ∷ ‵ (froom (sliceTy (tyRef erased mut (pointee (u64 .written)))) l₃₉ 0) ∷ ‵ (froom (tyRef erased mut (pointee (u64 .written))) l₃₈ 0) ∷ ‵ (froom (sliceTy (tyRef erased mut (pointee (Ms.the-row .written)))) l₃₇ 0) ∷ ‵ (froom (tyRef erased mut (pointee (Ms.the-row .written))) l₃₆ 0) ∷ ‵ (froom (sliceTy (tyRef erased mut (pointee (Le.the-row .written)))) l₃₅ 0) ∷ ‵ (froom (tyRef erased mut (pointee (Le.the-row .written))) l₃₄ 0) ∷ ‵ (froom (sliceTy (tyRef erased mut (pointee (Ac.the-row .written)))) l₃₃ 0) ∷ ‵ (froom (tyRef erased mut (pointee (Ac.the-row .written))) l₃₂ 0) ∷ ‵ (froom (sliceTy (tyRef erased mut (pointee (Pr.the-row .written)))) l₃₁ 0) ∷ ‵ (froom (tyRef erased mut (pointee (Pr.the-row .written))) l₃₀ 0) ∷ ‵ (froom tyUnit l₂₉ 0) ∷ ‵ (froom (sliceTy (tyRef erased imm (pointee (Ms.the-row .written)))) l₂₈ 0) ∷ ‵ (froom (tyRef erased imm (pointee (Ms.the-row .written))) l₂₇ 0) ∷ ‵ (froom (sliceTy (tyRef erased imm (pointee (Le.the-row .written)))) l₂₆ 0) ∷ ‵ (froom (tyRef erased imm (pointee (Le.the-row .written))) l₂₅ 0) ∷ ‵ (froom (sliceTy (tyRef erased imm (pointee (Ac.the-row .written)))) l₂₄ 0) ∷ ‵ (froom (tyRef erased imm (pointee (Ac.the-row .written))) l₂₃ 0) ∷ ‵ (froom (sliceTy (tyRef erased imm (pointee (Pr.the-row .written)))) l₂₂ 0) ∷ ‵ (froom (tyRef erased imm (pointee (Pr.the-row .written))) l₂₁ 0) ∷ ‵ (froom word l₂₀ 0) ∷ ‵ (froom word l₁₉ 0) ∷ ‵ (froom word l₁₈ 0) ∷ ‵ (froom word l₁₇ 0) ∷ ‵ (froom word l₁₆ 0) ∷ ‵ (froom byte l₁₅ 0) ∷ ‵ (fat fullShare byte l₁₄ 0 (vint w8 counted)) ∷ ‵ (fat fullShare tyBool l₁₃ 0 (vbool m)) ∷ ‵ (fat fullShare tyBool l₁₂ 0 (vbool l)) ∷ ‵ (fat fullShare tyBool l₁₁ 0 (vbool a)) ∷ ‵ (fat fullShare tyBool l₁₀ 0 (vbool p)) ∷ ‵ (fat fullShare tyBool l₉ 0 (vbool all-sized)) ∷ ‵ (fat fullShare half l₈ 0 (vint w16 n)) ∷ ‵ (fat fullShare (sliceTy (tyRef (named 5) mut (pointee (u64 .written)))) l₇ 0 s₅) ∷ ‵ (fat fullShare (sliceTy (tyRef (named 4) imm (pointee (u64 .written)))) l₆ 0 s₄) ∷ ‵ (fat fullShare (sliceTy (tyRef (named 3) mut (pointee (Ms.the-row .written)))) l₅ 0 s₃) ∷ ‵ (fat fullShare (sliceTy (tyRef (named 2) mut (pointee (Le.the-row .written)))) l₄ 0 s₂) ∷ ‵ (fat fullShare (sliceTy (tyRef (named 1) mut (pointee (Ac.the-row .written)))) l₃ 0 s₁) ∷ ‵ (fat fullShare (sliceTy (tyRef (named 0) mut (pointee (Pr.the-row .written)))) l₂ 0 s₀) ∷ ‵ (fat fullShare Sz′.mir l₁ 0 (valSz z)) ∷ ‵ (froom byte l₀ 0) ∷ Dies ∷ []) (runs C Λ En pieces.t-21 (atRet En Post))
       part-5 g9 g10 g11 g12 g13 g14 =
           calls-value ! fm (run-no.signature .params) u8 (run-no.ended .kept) (run-no.clauses 𝓤 H A mem run) known-run-no (bool-vals, (bool-vals, (bool-vals, (bool-vals, (bool-vals, (uint-vals w8, tt)))))) (bool-makes 𝓤 H A W, (bool-makes 𝓤 H A W, (bool-makes 𝓤 H A W, (bool-makes 𝓤 H A W, (bool-makes 𝓤 H A W, (uint-makes 𝓤 H A W w8, tt)))))) (vint w8) (uint-tells w8)
-          (all-sized, (p, (a, (l, (m, (counted, tt)))))) (g9, (g10, (g11, (g12, (g13, (g14, tt)))))) tt (id⊢ 𝓤 (emp 𝓤)) k (λ r e′. id⊢ 𝓤 (fact 𝓤 (r ≡ k))) (and-then ! (reads ! (from ! (stop !)) (look ! 43 refl)) (and-then ! (reads ! (from ! (stop !)) (look ! 42 refl)) (and-then ! (reads ! (from ! (stop !)) (look ! 41 refl)) (and-then ! (reads ! (from ! (stop !)) (look ! 40 refl)) (and-then ! (reads ! (from ! (stop !)) (look ! 39 refl)) (and-then ! (reads ! (from ! (stop !)) (look ! 38 refl)) (no-more !))))))) (λ g15.
-          land ! (from ! (stop !)) (init ! 36 refl (tt, record { fits = g15 .1 })) $
+          (all-sized, (p, (a, (l, (m, (counted, tt)))))) (g9, (g10, (g11, (g12, (g13, (g14, tt)))))) tt (id⊢ 𝓤 (emp 𝓤)) k (λ r e′. id⊢ 𝓤 (fact 𝓤 (r ≡ k))) (and-local ! 43 refl (and-local ! 42 refl (and-local ! 41 refl (and-local ! 40 refl (and-local ! 39 refl (and-local ! 38 refl (no-more !))))))) (λ g15.
+          land-in ! 36 refl (tt, record { fits = g15 .1 }) $
           calls-value ! fm (count-if.signature .params) usize (count-if.ended .kept) (count-if.clauses 𝓤 H A mem run) known-count-if (uint-vals w8, (uint-vals w16, tt)) (uint-makes 𝓤 H A W w8, (uint-makes 𝓤 H A W w16, tt)) (vint w64) (uint-tells w64)
-          (k, (n, tt)) (g15, (gn, tt)) tt (id⊢ 𝓤 (emp 𝓤)) i (λ r e′. id⊢ 𝓤 (fact 𝓤 (r ≡ i))) (and-then ! (reads ! (from ! (stop !)) (look ! 37 refl)) (and-then ! (reads ! (from ! (stop !)) (look ! 44 refl)) (no-more !))) (λ g16.
-          land ! (from ! (stop !)) (init ! 35 refl (tt, record { fits = g16 .1 })) $
+          (k, (n, tt)) (g15, (gn, tt)) tt (id⊢ 𝓤 (emp 𝓤)) i (λ r e′. id⊢ 𝓤 (fact 𝓤 (r ≡ i))) (and-local ! 37 refl (and-local ! 44 refl (no-more !))) (λ g16.
+          land-in ! 35 refl (tt, record { fits = g16 .1 }) $
           part-6 g9 g10 g11 g12 g13 g14 g15 g16))
 
       part-4 : (g9 : Is bool all-sized (bool-vals all-sized)) → (g10 : Is bool p (bool-vals p)) → (g11 : Is bool a (bool-vals a)) → (g12 : Is bool l (bool-vals l)) → (g13 : Is bool m (bool-vals m)) → Sq W (‵ (Slice Ms.the-row κ₃ γ₃ b₃ o₃ n₃ t) ∷ ‵ (flft κ₃ q₃) ∷ ‵ (Slice Le.the-row κ₂ γ₂ b₂ o₂ n₂ ls) ∷ ‵ (flft κ₂ q₂) ∷ ‵ (Slice Ac.the-row κ₁ γ₁ b₁ o₁ n₁ acs) ∷ ‵ (flft κ₁ q₁) ∷ ‵ (Slice Pr.the-row κ₀ γ₀ b₀ o₀ n₀ ps) ∷ ‵ (flft κ₀ q₀) ∷ ‵ (ShrSlice (named 4) κ₄ u64 .own (listAt u64 b₄ o₄ events γ₄) (s₄ ∷ [])) ∷ ‵ (flft κ₄ q₄) ∷ ‵ (Slice u64 κ₅ γ₅ b₅ o₅ n₅ log) ∷ ‵ (flft κ₅ q₅)
@@ -302,8 +298,8 @@ module _ {M : Type 1} (𝓤 : URA M) (H : Heap 𝓤) (A : Atoms 𝓤) (W : Given
           assigns ! (of-opd ! (reads ! (from ! (fld ! refl (stop !))) (look-in ! 45 (sub ! 1 refl (whole !))))) (from ! (stop !)) (init ! 34 refl (tt, record { fits = room₄ .0 })) $
           assigns ! (of-opd ! (reads ! (from ! (fld ! refl (stop !))) (look-in ! 44 (sub ! 1 refl (whole !))))) (from ! (stop !)) (init ! 31 refl (tt, record { fits = room₅ .0 })) $
           calls-value ! fm (events-no.signature .params) u8 (events-no.ended .kept) (events-no.clauses 𝓤 H A mem run) known-events-no (uint-vals w64, (uint-vals w64, (uint-vals w16, tt))) (uint-makes 𝓤 H A W w64, (uint-makes 𝓤 H A W w64, (uint-makes 𝓤 H A W w16, tt))) (vint w8) (uint-tells w8)
-          (n₄, (n₅, (n, tt))) ((refl, room₄ .0), ((refl, room₅ .0), (gn, tt))) tt (id⊢ 𝓤 (emp 𝓤)) counted (λ r e′. id⊢ 𝓤 (fact 𝓤 (r ≡ counted))) (and-then ! (reads ! (from ! (stop !)) (look ! 35 refl)) (and-then ! (reads ! (from ! (stop !)) (look ! 32 refl)) (and-then ! (reads ! (from ! (stop !)) (look ! 44 refl)) (no-more !)))) (λ g14.
-          land ! (from ! (stop !)) (init ! 37 refl (tt, record { fits = g14 .1 })) $
+          (n₄, (n₅, (n, tt))) ((refl, room₄ .0), ((refl, room₅ .0), (gn, tt))) tt (id⊢ 𝓤 (emp 𝓤)) counted (λ r e′. id⊢ 𝓤 (fact 𝓤 (r ≡ counted))) (and-local ! 35 refl (and-local ! 32 refl (and-local ! 44 refl (no-more !)))) (λ g14.
+          land-in ! 37 refl (tt, record { fits = g14 .1 }) $
           forget ! 34 refl $
           forget ! 31 refl $
           part-5 g9 g10 g11 g12 g13 g14)
@@ -311,18 +307,16 @@ module _ {M : Type 1} (𝓤 : URA M) (H : Heap 𝓤) (A : Atoms 𝓤) (W : Given
       part-3 : (g9 : Is bool all-sized (bool-vals all-sized)) → (g10 : Is bool p (bool-vals p)) → (g11 : Is bool a (bool-vals a)) → Sq W (‵ (Slice Ac.the-row κ₁ γ₁ b₁ o₁ n₁ acs) ∷ ‵ (flft κ₁ q₁) ∷ ‵ (Slice Pr.the-row κ₀ γ₀ b₀ o₀ n₀ ps) ∷ ‵ (flft κ₀ q₀) ∷ ‵ (Slice Le.the-row κ₂ γ₂ b₂ o₂ n₂ ls) ∷ ‵ (flft κ₂ q₂) ∷ ‵ (Slice Ms.the-row κ₃ γ₃ b₃ o₃ n₃ t) ∷ ‵ (flft κ₃ q₃) ∷ ‵ (ShrSlice (named 4) κ₄ u64 .own (listAt u64 b₄ o₄ events γ₄) (s₄ ∷ [])) ∷ ‵ (flft κ₄ q₄) ∷ ‵ (Slice u64 κ₅ γ₅ b₅ o₅ n₅ log) ∷ ‵ (flft κ₅ q₅)
           ∷ ‵ (froom (sliceTy (tyRef erased mut (pointee (u64 .written)))) l₃₉ 0) ∷ ‵ (froom (tyRef erased mut (pointee (u64 .written))) l₃₈ 0) ∷ ‵ (froom (sliceTy (tyRef erased mut (pointee (Ms.the-row .written)))) l₃₇ 0) ∷ ‵ (froom (tyRef erased mut (pointee (Ms.the-row .written))) l₃₆ 0) ∷ ‵ (froom (sliceTy (tyRef erased mut (pointee (Le.the-row .written)))) l₃₅ 0) ∷ ‵ (froom (tyRef erased mut (pointee (Le.the-row .written))) l₃₄ 0) ∷ ‵ (froom (sliceTy (tyRef erased mut (pointee (Ac.the-row .written)))) l₃₃ 0) ∷ ‵ (froom (tyRef erased mut (pointee (Ac.the-row .written))) l₃₂ 0) ∷ ‵ (froom (sliceTy (tyRef erased mut (pointee (Pr.the-row .written)))) l₃₁ 0) ∷ ‵ (froom (tyRef erased mut (pointee (Pr.the-row .written))) l₃₀ 0) ∷ ‵ (froom tyUnit l₂₉ 0) ∷ ‵ (froom (sliceTy (tyRef erased imm (pointee (Ms.the-row .written)))) l₂₈ 0) ∷ ‵ (froom (tyRef erased imm (pointee (Ms.the-row .written))) l₂₇ 0) ∷ ‵ (froom (sliceTy (tyRef erased imm (pointee (Le.the-row .written)))) l₂₆ 0) ∷ ‵ (froom (tyRef erased imm (pointee (Le.the-row .written))) l₂₅ 0) ∷ ‵ (froom (sliceTy (tyRef erased imm (pointee (Ac.the-row .written)))) l₂₄ 0) ∷ ‵ (froom (tyRef erased imm (pointee (Ac.the-row .written))) l₂₃ 0) ∷ ‵ (froom (sliceTy (tyRef erased imm (pointee (Pr.the-row .written)))) l₂₂ 0) ∷ ‵ (froom (tyRef erased imm (pointee (Pr.the-row .written))) l₂₁ 0) ∷ ‵ (froom word l₂₀ 0) ∷ ‵ (froom word l₁₉ 0) ∷ ‵ (froom word l₁₈ 0) ∷ ‵ (froom word l₁₇ 0) ∷ ‵ (froom word l₁₆ 0) ∷ ‵ (froom byte l₁₅ 0) ∷ ‵ (froom byte l₁₄ 0) ∷ ‵ (froom tyBool l₁₃ 0) ∷ ‵ (froom tyBool l₁₂ 0) ∷ ‵ (fat fullShare tyBool l₁₁ 0 (vbool a)) ∷ ‵ (fat fullShare tyBool l₁₀ 0 (vbool p)) ∷ ‵ (fat fullShare tyBool l₉ 0 (vbool all-sized)) ∷ ‵ (fat fullShare half l₈ 0 (vint w16 n)) ∷ ‵ (fat fullShare (sliceTy (tyRef (named 5) mut (pointee (u64 .written)))) l₇ 0 s₅) ∷ ‵ (fat fullShare (sliceTy (tyRef (named 4) imm (pointee (u64 .written)))) l₆ 0 s₄) ∷ ‵ (fat fullShare (sliceTy (tyRef (named 3) mut (pointee (Ms.the-row .written)))) l₅ 0 s₃) ∷ ‵ (fat fullShare (sliceTy (tyRef (named 2) mut (pointee (Le.the-row .written)))) l₄ 0 s₂) ∷ ‵ (fat fullShare (sliceTy (tyRef (named 1) mut (pointee (Ac.the-row .written)))) l₃ 0 s₁) ∷ ‵ (fat fullShare (sliceTy (tyRef (named 0) mut (pointee (Pr.the-row .written)))) l₂ 0 s₀) ∷ ‵ (fat fullShare Sz′.mir l₁ 0 (valSz z)) ∷ ‵ (froom byte l₀ 0) ∷ Dies ∷ []) (runs C Λ En pieces.t-12 (atRet En Post))
       part-3 g9 g10 g11 =
-          assigns ! (addr ! (from ! (fld ! refl (hop ! (look-in ! 47 (sub ! 0 refl (whole !))) (stop !))))) (from ! (stop !)) (init ! 26 refl (tt, tt)) $
-          assigns ! (agg ! (and-then ! (reads ! (from ! (stop !)) (look ! 26 refl)) (and-then ! (reads ! (from ! (fld ! refl (stop !))) (look-in ! 47 (sub ! 1 refl (whole !)))) (no-more !)))) (from ! (stop !)) (init ! 25 refl (tt, (tt, (record { fits = room₂ .0 }, tt)))) $
+          lends-again ! 47 26 25 refl refl refl refl (tt, tt) refl refl (tt, (tt, (record { fits = room₂ .0 }, tt))) refl $
           move ! (4 ∷ 5 ∷ []) $
           calls-shared ! fm Le.the-row (plain (λ _. Sz.the-row) ∷ []) bool (yes, tt) vbool bool-tells b₂ o₂ n₂ ls refl (λ ν. (valsSz, tt)) (λ ν. (makesSz, tt)) (λ ν. (z, tt)) (λ ν. (gz, tt))
-          (learners-in-range.clauses 𝓤 H A mem run) known-learners-in-range l (λ ν δ. tt) (λ ν δ. id⊢ 𝓤 (emp 𝓤)) (λ ν δ r e′. id⊢ 𝓤 (fact 𝓤 (r ≡ l))) (λ ν δ. (and-then ! (reads ! (from ! (stop !)) (look ! 28 refl)) (and-then ! (reads ! (from ! (stop !)) (look ! 53 refl)) (no-more !)))) (λ g12.
-          land ! (from ! (stop !)) (init ! 39 refl (tt, tt)) $
-          assigns ! (addr ! (from ! (fld ! refl (hop ! (look-in ! 46 (sub ! 0 refl (whole !))) (stop !))))) (from ! (stop !)) (init ! 24 refl (tt, tt)) $
-          assigns ! (agg ! (and-then ! (reads ! (from ! (stop !)) (look ! 24 refl)) (and-then ! (reads ! (from ! (fld ! refl (stop !))) (look-in ! 46 (sub ! 1 refl (whole !)))) (no-more !)))) (from ! (stop !)) (init ! 23 refl (tt, (tt, (record { fits = room₃ .0 }, tt)))) $
+          (learners-in-range.clauses 𝓤 H A mem run) known-learners-in-range l (λ ν δ. tt) (λ ν δ. id⊢ 𝓤 (emp 𝓤)) (λ ν δ r e′. id⊢ 𝓤 (fact 𝓤 (r ≡ l))) (λ ν δ. (and-local ! 28 refl (and-local ! 53 refl (no-more !)))) (λ g12.
+          land-in ! 39 refl (tt, tt) $
+          lends-again ! 46 24 23 refl refl refl refl (tt, tt) refl refl (tt, (tt, (record { fits = room₃ .0 }, tt))) refl $
           move ! (6 ∷ 7 ∷ []) $
           calls-shared ! fm Ms.the-row (plain (λ _. Sz.the-row) ∷ []) bool (yes, tt) vbool bool-tells b₃ o₃ n₃ t refl (λ ν. (valsSz, tt)) (λ ν. (makesSz, tt)) (λ ν. (z, tt)) (λ ν. (gz, tt))
-          (messages-in-range.clauses 𝓤 H A mem run) known-messages-in-range m (λ ν δ. tt) (λ ν δ. id⊢ 𝓤 (emp 𝓤)) (λ ν δ r e′. id⊢ 𝓤 (fact 𝓤 (r ≡ m))) (λ ν δ. (and-then ! (reads ! (from ! (stop !)) (look ! 26 refl)) (and-then ! (reads ! (from ! (stop !)) (look ! 53 refl)) (no-more !)))) (λ g13.
-          land ! (from ! (stop !)) (init ! 38 refl (tt, tt)) $
+          (messages-in-range.clauses 𝓤 H A mem run) known-messages-in-range m (λ ν δ. tt) (λ ν δ. id⊢ 𝓤 (emp 𝓤)) (λ ν δ r e′. id⊢ 𝓤 (fact 𝓤 (r ≡ m))) (λ ν δ. (and-local ! 26 refl (and-local ! 53 refl (no-more !)))) (λ g13.
+          land-in ! 38 refl (tt, tt) $
           forget ! 26 refl $
           forget ! 25 refl $
           forget ! 24 refl $
@@ -332,17 +326,15 @@ module _ {M : Type 1} (𝓤 : URA M) (H : Heap 𝓤) (A : Atoms 𝓤) (W : Given
       part-2 : (g9 : Is bool all-sized (bool-vals all-sized)) → Sq W (‵ (Slice Pr.the-row κ₀ γ₀ b₀ o₀ n₀ ps) ∷ ‵ (flft κ₀ q₀) ∷ ‵ (Slice Ac.the-row κ₁ γ₁ b₁ o₁ n₁ acs) ∷ ‵ (flft κ₁ q₁) ∷ ‵ (Slice Le.the-row κ₂ γ₂ b₂ o₂ n₂ ls) ∷ ‵ (flft κ₂ q₂) ∷ ‵ (Slice Ms.the-row κ₃ γ₃ b₃ o₃ n₃ t) ∷ ‵ (flft κ₃ q₃) ∷ ‵ (ShrSlice (named 4) κ₄ u64 .own (listAt u64 b₄ o₄ events γ₄) (s₄ ∷ [])) ∷ ‵ (flft κ₄ q₄) ∷ ‵ (Slice u64 κ₅ γ₅ b₅ o₅ n₅ log) ∷ ‵ (flft κ₅ q₅)
           ∷ ‵ (froom (sliceTy (tyRef erased mut (pointee (u64 .written)))) l₃₉ 0) ∷ ‵ (froom (tyRef erased mut (pointee (u64 .written))) l₃₈ 0) ∷ ‵ (froom (sliceTy (tyRef erased mut (pointee (Ms.the-row .written)))) l₃₇ 0) ∷ ‵ (froom (tyRef erased mut (pointee (Ms.the-row .written))) l₃₆ 0) ∷ ‵ (froom (sliceTy (tyRef erased mut (pointee (Le.the-row .written)))) l₃₅ 0) ∷ ‵ (froom (tyRef erased mut (pointee (Le.the-row .written))) l₃₄ 0) ∷ ‵ (froom (sliceTy (tyRef erased mut (pointee (Ac.the-row .written)))) l₃₃ 0) ∷ ‵ (froom (tyRef erased mut (pointee (Ac.the-row .written))) l₃₂ 0) ∷ ‵ (froom (sliceTy (tyRef erased mut (pointee (Pr.the-row .written)))) l₃₁ 0) ∷ ‵ (froom (tyRef erased mut (pointee (Pr.the-row .written))) l₃₀ 0) ∷ ‵ (froom tyUnit l₂₉ 0) ∷ ‵ (froom (sliceTy (tyRef erased imm (pointee (Ms.the-row .written)))) l₂₈ 0) ∷ ‵ (froom (tyRef erased imm (pointee (Ms.the-row .written))) l₂₇ 0) ∷ ‵ (froom (sliceTy (tyRef erased imm (pointee (Le.the-row .written)))) l₂₆ 0) ∷ ‵ (froom (tyRef erased imm (pointee (Le.the-row .written))) l₂₅ 0) ∷ ‵ (froom (sliceTy (tyRef erased imm (pointee (Ac.the-row .written)))) l₂₄ 0) ∷ ‵ (froom (tyRef erased imm (pointee (Ac.the-row .written))) l₂₃ 0) ∷ ‵ (froom (sliceTy (tyRef erased imm (pointee (Pr.the-row .written)))) l₂₂ 0) ∷ ‵ (froom (tyRef erased imm (pointee (Pr.the-row .written))) l₂₁ 0) ∷ ‵ (froom word l₂₀ 0) ∷ ‵ (froom word l₁₉ 0) ∷ ‵ (froom word l₁₈ 0) ∷ ‵ (froom word l₁₇ 0) ∷ ‵ (froom word l₁₆ 0) ∷ ‵ (froom byte l₁₅ 0) ∷ ‵ (froom byte l₁₄ 0) ∷ ‵ (froom tyBool l₁₃ 0) ∷ ‵ (froom tyBool l₁₂ 0) ∷ ‵ (froom tyBool l₁₁ 0) ∷ ‵ (froom tyBool l₁₀ 0) ∷ ‵ (fat fullShare tyBool l₉ 0 (vbool all-sized)) ∷ ‵ (fat fullShare half l₈ 0 (vint w16 n)) ∷ ‵ (fat fullShare (sliceTy (tyRef (named 5) mut (pointee (u64 .written)))) l₇ 0 s₅) ∷ ‵ (fat fullShare (sliceTy (tyRef (named 4) imm (pointee (u64 .written)))) l₆ 0 s₄) ∷ ‵ (fat fullShare (sliceTy (tyRef (named 3) mut (pointee (Ms.the-row .written)))) l₅ 0 s₃) ∷ ‵ (fat fullShare (sliceTy (tyRef (named 2) mut (pointee (Le.the-row .written)))) l₄ 0 s₂) ∷ ‵ (fat fullShare (sliceTy (tyRef (named 1) mut (pointee (Ac.the-row .written)))) l₃ 0 s₁) ∷ ‵ (fat fullShare (sliceTy (tyRef (named 0) mut (pointee (Pr.the-row .written)))) l₂ 0 s₀) ∷ ‵ (fat fullShare Sz′.mir l₁ 0 (valSz z)) ∷ ‵ (froom byte l₀ 0) ∷ Dies ∷ []) (runs C Λ En pieces.t-6 (atRet En Post))
       part-2 g9 =
-          assigns ! (addr ! (from ! (fld ! refl (hop ! (look-in ! 49 (sub ! 0 refl (whole !))) (stop !))))) (from ! (stop !)) (init ! 30 refl (tt, tt)) $
-          assigns ! (agg ! (and-then ! (reads ! (from ! (stop !)) (look ! 30 refl)) (and-then ! (reads ! (from ! (fld ! refl (stop !))) (look-in ! 49 (sub ! 1 refl (whole !)))) (no-more !)))) (from ! (stop !)) (init ! 29 refl (tt, (tt, (record { fits = room₀ .0 }, tt)))) $
+          lends-again ! 49 30 29 refl refl refl refl (tt, tt) refl refl (tt, (tt, (record { fits = room₀ .0 }, tt))) refl $
           calls-shared ! fm Pr.the-row (plain (λ _. Sz.the-row) ∷ []) bool (yes, tt) vbool bool-tells b₀ o₀ n₀ ps refl (λ ν. (valsSz, tt)) (λ ν. (makesSz, tt)) (λ ν. (z, tt)) (λ ν. (gz, tt))
-          (proposers-in-range.clauses 𝓤 H A mem run) known-proposers-in-range p (λ ν δ. tt) (λ ν δ. id⊢ 𝓤 (emp 𝓤)) (λ ν δ r e′. id⊢ 𝓤 (fact 𝓤 (r ≡ p))) (λ ν δ. (and-then ! (reads ! (from ! (stop !)) (look ! 32 refl)) (and-then ! (reads ! (from ! (stop !)) (look ! 53 refl)) (no-more !)))) (λ g10.
-          land ! (from ! (stop !)) (init ! 41 refl (tt, tt)) $
-          assigns ! (addr ! (from ! (fld ! refl (hop ! (look-in ! 48 (sub ! 0 refl (whole !))) (stop !))))) (from ! (stop !)) (init ! 28 refl (tt, tt)) $
-          assigns ! (agg ! (and-then ! (reads ! (from ! (stop !)) (look ! 28 refl)) (and-then ! (reads ! (from ! (fld ! refl (stop !))) (look-in ! 48 (sub ! 1 refl (whole !)))) (no-more !)))) (from ! (stop !)) (init ! 27 refl (tt, (tt, (record { fits = room₁ .0 }, tt)))) $
+          (proposers-in-range.clauses 𝓤 H A mem run) known-proposers-in-range p (λ ν δ. tt) (λ ν δ. id⊢ 𝓤 (emp 𝓤)) (λ ν δ r e′. id⊢ 𝓤 (fact 𝓤 (r ≡ p))) (λ ν δ. (and-local ! 32 refl (and-local ! 53 refl (no-more !)))) (λ g10.
+          land-in ! 41 refl (tt, tt) $
+          lends-again ! 48 28 27 refl refl refl refl (tt, tt) refl refl (tt, (tt, (record { fits = room₁ .0 }, tt))) refl $
           move ! (2 ∷ 3 ∷ []) $
           calls-shared ! fm Ac.the-row (plain (λ _. Sz.the-row) ∷ []) bool (yes, tt) vbool bool-tells b₁ o₁ n₁ acs refl (λ ν. (valsSz, tt)) (λ ν. (makesSz, tt)) (λ ν. (z, tt)) (λ ν. (gz, tt))
-          (acceptors-in-range.clauses 𝓤 H A mem run) known-acceptors-in-range a (λ ν δ. tt) (λ ν δ. id⊢ 𝓤 (emp 𝓤)) (λ ν δ r e′. id⊢ 𝓤 (fact 𝓤 (r ≡ a))) (λ ν δ. (and-then ! (reads ! (from ! (stop !)) (look ! 30 refl)) (and-then ! (reads ! (from ! (stop !)) (look ! 53 refl)) (no-more !)))) (λ g11.
-          land ! (from ! (stop !)) (init ! 40 refl (tt, tt)) $
+          (acceptors-in-range.clauses 𝓤 H A mem run) known-acceptors-in-range a (λ ν δ. tt) (λ ν δ. id⊢ 𝓤 (emp 𝓤)) (λ ν δ r e′. id⊢ 𝓤 (fact 𝓤 (r ≡ a))) (λ ν δ. (and-local ! 30 refl (and-local ! 53 refl (no-more !)))) (λ g11.
+          land-in ! 40 refl (tt, tt) $
           forget ! 30 refl $
           forget ! 29 refl $
           forget ! 28 refl $
@@ -357,8 +349,8 @@ module _ {M : Type 1} (𝓤 : URA M) (H : Heap 𝓤) (A : Atoms 𝓤) (W : Given
           assigns ! (of-opd ! (reads ! (from ! (fld ! refl (stop !))) (look-in ! 47 (sub ! 1 refl (whole !))))) (from ! (stop !)) (init ! 32 refl (tt, record { fits = room₂ .0 })) $
           assigns ! (of-opd ! (reads ! (from ! (fld ! refl (stop !))) (look-in ! 46 (sub ! 1 refl (whole !))))) (from ! (stop !)) (init ! 31 refl (tt, record { fits = room₃ .0 })) $
           calls-value ! fm (sized.signature .params) bool (sized.ended .kept) (sized.clauses 𝓤 H A mem run) known-sized (valsSz, (uint-vals w64, (uint-vals w64, (uint-vals w64, (uint-vals w64, tt))))) (makesSz, (uint-makes 𝓤 H A W w64, (uint-makes 𝓤 H A W w64, (uint-makes 𝓤 H A W w64, (uint-makes 𝓤 H A W w64, tt))))) vbool bool-tells
-          (z, (n₀, (n₁, (n₂, (n₃, tt))))) (gz, ((refl, room₀ .0), ((refl, room₁ .0), ((refl, room₂ .0), ((refl, room₃ .0), tt))))) tt (id⊢ 𝓤 (emp 𝓤)) all-sized (λ r e′. id⊢ 𝓤 (fact 𝓤 (r ≡ all-sized))) (and-then ! (reads ! (from ! (stop !)) (look ! 51 refl)) (and-then ! (reads ! (from ! (stop !)) (look ! 35 refl)) (and-then ! (reads ! (from ! (stop !)) (look ! 34 refl)) (and-then ! (reads ! (from ! (stop !)) (look ! 33 refl)) (and-then ! (reads ! (from ! (stop !)) (look ! 32 refl)) (no-more !)))))) (λ g9.
-          land ! (from ! (stop !)) (init ! 42 refl (tt, tt)) $
+          (z, (n₀, (n₁, (n₂, (n₃, tt))))) (gz, ((refl, room₀ .0), ((refl, room₁ .0), ((refl, room₂ .0), ((refl, room₃ .0), tt))))) tt (id⊢ 𝓤 (emp 𝓤)) all-sized (λ r e′. id⊢ 𝓤 (fact 𝓤 (r ≡ all-sized))) (and-local ! 51 refl (and-local ! 35 refl (and-local ! 34 refl (and-local ! 33 refl (and-local ! 32 refl (no-more !)))))) (λ g9.
+          land-in ! 42 refl (tt, tt) $
           forget ! 34 refl $
           forget ! 33 refl $
           forget ! 32 refl $
@@ -368,11 +360,11 @@ module _ {M : Type 1} (𝓤 : URA M) (H : Heap 𝓤) (A : Atoms 𝓤) (W : Given
     walk : ent 𝓤 (onEntry 𝓤 H A this.signature (κ₀, (κ₁, (κ₂, (κ₃, (κ₄, (κ₅, tt)))))) (q₀, (q₁, (q₂, (q₃, (q₄, (q₅, tt)))))) (z, (listAt Pr.the-row b₀ o₀ ps γ₀, (listAt Ac.the-row b₁ o₁ acs γ₁, (listAt Le.the-row b₂ o₂ ls γ₂, (listAt Ms.the-row b₃ o₃ t γ₃, (listAt u64 b₄ o₄ events γ₄, (listAt u64 b₅ o₅ log γ₅, (n, tt)))))))) at) (WpFn 𝓤 H C Λ code.function (valSz z ∷ s₀ ∷ s₁ ∷ s₂ ∷ s₃ ∷ s₄ ∷ s₅ ∷ vint w16 n ∷ []) Post)
     walk =
         qed W ((‵ (flft κ₀ q₀) ⊛ ‵ (flft κ₁ q₁) ⊛ ‵ (flft κ₂ q₂) ⊛ ‵ (flft κ₃ q₃) ⊛ ‵ (flft κ₄ q₄) ⊛ ‵ (flft κ₅ q₅) ⊛ ‵ ftrue) ∷ ‵ (owns (Sz.the-row ∷ MutSlice (named 0) κ₀ Pr.the-row ∷ MutSlice (named 1) κ₁ Ac.the-row ∷ MutSlice (named 2) κ₂ Le.the-row ∷ MutSlice (named 3) κ₃ Ms.the-row ∷ ShrSlice (named 4) κ₄ u64 ∷ MutSlice (named 5) κ₅ u64 ∷ u16 ∷ []) (z, (listAt Pr.the-row b₀ o₀ ps γ₀, (listAt Ac.the-row b₁ o₁ acs γ₁, (listAt Le.the-row b₂ o₂ ls γ₂, (listAt Ms.the-row b₃ o₃ t γ₃, (listAt u64 b₄ o₄ events γ₄, (listAt u64 b₅ o₅ log γ₅, (n, tt)))))))) at) ∷ []) ∵ enter ! C Λ code.function (valSz z ∷ s₀ ∷ s₁ ∷ s₂ ∷ s₃ ∷ s₄ ∷ s₅ ∷ vint w16 n ∷ []) _ $
-        alloc1 ! (λ l₀. alloc1 ! (λ l₁. alloc1 ! (λ l₂. alloc1 ! (λ l₃. alloc1 ! (λ l₄. alloc1 ! (λ l₅. alloc1 ! (λ l₆. alloc1 ! (λ l₇. alloc1 ! (λ l₈. alloc1 ! (λ l₉. alloc1 ! (λ l₁₀. alloc1 ! (λ l₁₁. alloc1 ! (λ l₁₂. alloc1 ! (λ l₁₃. alloc1 ! (λ l₁₄. alloc1 ! (λ l₁₅. alloc1 ! (λ l₁₆. alloc1 ! (λ l₁₇. alloc1 ! (λ l₁₈. alloc1 ! (λ l₁₉. alloc1 ! (λ l₂₀. alloc1 ! (λ l₂₁. alloc1 ! (λ l₂₂. alloc1 ! (λ l₂₃. alloc1 ! (λ l₂₄. alloc1 ! (λ l₂₅. alloc1 ! (λ l₂₆. alloc1 ! (λ l₂₇. alloc1 ! (λ l₂₈. alloc1 ! (λ l₂₉. alloc1 ! (λ l₃₀. alloc1 ! (λ l₃₁. alloc1 ! (λ l₃₂. alloc1 ! (λ l₃₃. alloc1 ! (λ l₃₄. alloc1 ! (λ l₃₅. alloc1 ! (λ l₃₆. alloc1 ! (λ l₃₇. alloc1 ! (λ l₃₈. alloc1 ! (λ l₃₉. alloc0 ! $ dies-apart ! 40 $ params1 ! $
+        allocates ! (λ l₀ l₁ l₂ l₃ l₄ l₅ l₆ l₇ l₈ l₉ l₁₀ l₁₁ l₁₂ l₁₃ l₁₄ l₁₅ l₁₆ l₁₇ l₁₈ l₁₉ l₂₀ l₂₁ l₂₂ l₂₃ l₂₄ l₂₅ l₂₆ l₂₇ l₂₈ l₂₉ l₃₀ l₃₁ l₃₂ l₃₃ l₃₄ l₃₅ l₃₆ l₃₇ l₃₈ l₃₉. params1 ! $
         pass1 ! (init ! 39 refl (typedSz z gz)) $ pass1 ! (init ! 38 refl (tt, (tt, (record { fits = room₀ .0 }, tt)))) $ pass1 ! (init ! 37 refl (tt, (tt, (record { fits = room₁ .0 }, tt)))) $ pass1 ! (init ! 36 refl (tt, (tt, (record { fits = room₂ .0 }, tt)))) $ pass1 ! (init ! 35 refl (tt, (tt, (record { fits = room₃ .0 }, tt)))) $ pass1 ! (init ! 34 refl (tt, (tt, (record { fits = room₄ .0 }, tt)))) $ pass1 ! (init ! 33 refl (tt, (tt, (record { fits = room₅ .0 }, tt)))) $ pass1 ! (init ! 32 refl (tt, record { fits = gn .1 })) $ pass0 ! $
         move ! (42 ∷ []) $ fsplit ! $ move ! (1 ∷ []) $ fsplit ! $ move ! (1 ∷ []) $ fsplit ! $ move ! (1 ∷ []) $ fsplit ! $ move ! (1 ∷ []) $ fsplit ! $ move ! (1 ∷ []) $ fsplit ! $ move ! (1 ∷ []) $ fsplit ! $
         move ! (49 ∷ []) $ split ! $ move ! (1 ∷ []) $ split ! $ move ! (1 ∷ []) $ split ! $ move ! (1 ∷ []) $ split ! $ move ! (1 ∷ []) $ split ! $ move ! (1 ∷ []) $ split ! $
-        keep ! (13 ∷ 6 ∷ 12 ∷ 5 ∷ 11 ∷ 4 ∷ 10 ∷ 3 ∷ 9 ∷ 2 ∷ 7 ∷ 0 ∷ 16 ∷ 17 ∷ 18 ∷ 19 ∷ 20 ∷ 21 ∷ 22 ∷ 23 ∷ 24 ∷ 25 ∷ 26 ∷ 27 ∷ 28 ∷ 29 ∷ 30 ∷ 31 ∷ 32 ∷ 33 ∷ 34 ∷ 35 ∷ 36 ∷ 37 ∷ 38 ∷ 39 ∷ 40 ∷ 41 ∷ 42 ∷ 43 ∷ 44 ∷ 45 ∷ 46 ∷ 47 ∷ 48 ∷ 49 ∷ 50 ∷ 51 ∷ 52 ∷ 53 ∷ 54 ∷ 55 ∷ 15 ∷ []) $ part-1 l₀ l₁ l₂ l₃ l₄ l₅ l₆ l₇ l₈ l₉ l₁₀ l₁₁ l₁₂ l₁₃ l₁₄ l₁₅ l₁₆ l₁₇ l₁₈ l₁₉ l₂₀ l₂₁ l₂₂ l₂₃ l₂₄ l₂₅ l₂₆ l₂₇ l₂₈ l₂₉ l₃₀ l₃₁ l₃₂ l₃₃ l₃₄ l₃₅ l₃₆ l₃₇ l₃₈ l₃₉))))))))))))))))))))))))))))))))))))))))
+        keep ! (13 ∷ 6 ∷ 12 ∷ 5 ∷ 11 ∷ 4 ∷ 10 ∷ 3 ∷ 9 ∷ 2 ∷ 7 ∷ 0 ∷ 16 ∷ 17 ∷ 18 ∷ 19 ∷ 20 ∷ 21 ∷ 22 ∷ 23 ∷ 24 ∷ 25 ∷ 26 ∷ 27 ∷ 28 ∷ 29 ∷ 30 ∷ 31 ∷ 32 ∷ 33 ∷ 34 ∷ 35 ∷ 36 ∷ 37 ∷ 38 ∷ 39 ∷ 40 ∷ 41 ∷ 42 ∷ 43 ∷ 44 ∷ 45 ∷ 46 ∷ 47 ∷ 48 ∷ 49 ∷ 50 ∷ 51 ∷ 52 ∷ 53 ∷ 54 ∷ 55 ∷ 15 ∷ []) $ part-1 l₀ l₁ l₂ l₃ l₄ l₅ l₆ l₇ l₈ l₉ l₁₀ l₁₁ l₁₂ l₁₃ l₁₄ l₁₅ l₁₆ l₁₇ l₁₈ l₁₉ l₂₀ l₂₁ l₂₂ l₂₃ l₂₄ l₂₅ l₂₆ l₂₇ l₂₈ l₂₉ l₃₀ l₃₁ l₃₂ l₃₃ l₃₄ l₃₅ l₃₆ l₃₇ l₃₈ l₃₉)
 
 module _ {M : Type 1} (𝓤 : URA M) (H : Heap 𝓤) (A : Atoms 𝓤) (W : Given 𝓤 H A) (mem : Memory → SProp 𝓤) (run : Routine → Fun 𝓤) (𝓣 : Tables 𝓤 H) (known-sized : Triple 𝓤 (𝓣 .C #sized) (Of-sized 𝓤 H A mem run)) (known-proposers-in-range : Triple 𝓤 (𝓣 .C #proposers-in-range) (Of-proposers-in-range 𝓤 H A mem run)) (known-acceptors-in-range : Triple 𝓤 (𝓣 .C #acceptors-in-range) (Of-acceptors-in-range 𝓤 H A mem run)) (known-learners-in-range : Triple 𝓤 (𝓣 .C #learners-in-range) (Of-learners-in-range 𝓤 H A mem run)) (known-messages-in-range : Triple 𝓤 (𝓣 .C #messages-in-range) (Of-messages-in-range 𝓤 H A mem run)) (known-events-no : Triple 𝓤 (𝓣 .C #events-no) (Of-events-no 𝓤 H A mem run)) (known-run-no : Triple 𝓤 (𝓣 .C #run-no) (Of-run-no 𝓤 H A mem run)) (known-count-if : Triple 𝓤 (𝓣 .C #count-if) (Of-count-if 𝓤 H A mem run)) (known-drive : Triple 𝓤 (𝓣 .C #drive) (Of-drive 𝓤 H A mem run)) where
   f-walks : Walks 𝓤 H A this.ended stayed (WpFn 𝓤 H (𝓣 .C) (𝓣 .Λ) code.function) (this.clauses 𝓤 H A mem run)

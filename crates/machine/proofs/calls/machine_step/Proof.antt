@@ -18,8 +18,7 @@ use ghost.Atoms.{Atoms}
 use contract.Monad.{Fun, fact, fact-mono}
 use contract.Running.{givenOf, tables, tablesOf}
 use types.Kit.{Given, Item, ‵, _⊛_, ⋆, runs, atRet, Sq, _$_, _∵_, !, qed, by, move, keep, split, join, fsplit, fjoin, suffices, frame, done}
-use types.Part.{agg, whole, sub, look-in}
-use types.Run.{look, init, forget, stop, hop, fld, from, load as reads, addr, and-then, no-more, assigns, land, returns, enter, alloc1, alloc0, params1, pass1, pass0}
+use types.Run.{look, init, forget, no-more, returns, enter, params1, pass1, pass0}
 use sound.WpLaws.{FmC, fmOf, WpFn-mono}
 use denote.RattleType.{owns}
 use denote.Laws.{Is, Makes}
@@ -37,7 +36,8 @@ use denote.Triple.Walked.{says, Stays, stay-none, stay-slice, walkOf, goes-none,
 use denote.Exit.{yes}
 use Rattle.model.specs.Step.{Stepped, step}
 use Rattle.machine.specs.Calls.{lent as lent-as, saidOf}
-use Rattle.machine.proofs.Frees.{full, bare, dies-apart, frees-all}
+use Rattle.machine.proofs.Frees.{full, bare, allocates, frees-all}
+use Rattle.machine.proofs.Moves.{and-local, land-in, lends-again}
 use Rattle.machine.proofs.Relending.{Slice, listAt}
 use Rattle.machine.proofs.CallsByValue.{calls-value}
 use Rattle.machine.proofs.CallsWithSlices.{passed, lent, calls}
@@ -198,30 +198,26 @@ module _ {M : Type 1} (𝓤 : URA M) (H : Heap 𝓤) (A : Atoms 𝓤) (W : Given
           ∷ ‵ (froom (sliceTy (tyRef erased mut (pointee (Ms.the-row .written)))) l₁₅ 0) ∷ ‵ (froom (tyRef erased mut (pointee (Ms.the-row .written))) l₁₄ 0) ∷ ‵ (froom (sliceTy (tyRef erased mut (pointee (Le.the-row .written)))) l₁₃ 0) ∷ ‵ (froom (tyRef erased mut (pointee (Le.the-row .written))) l₁₂ 0) ∷ ‵ (froom (sliceTy (tyRef erased mut (pointee (Ac.the-row .written)))) l₁₁ 0) ∷ ‵ (froom (tyRef erased mut (pointee (Ac.the-row .written))) l₁₀ 0) ∷ ‵ (froom (sliceTy (tyRef erased mut (pointee (Pr.the-row .written)))) l₉ 0) ∷ ‵ (froom (tyRef erased mut (pointee (Pr.the-row .written))) l₈ 0) ∷ ‵ (fat fullShare An′.mir l₇ 0 (valAn (done′ .answer))) ∷ ‵ (fat fullShare Ev′.mir l₆ 0 (valEv e)) ∷ ‵ (fat fullShare (sliceTy (tyRef (named 3) mut (pointee (Ms.the-row .written)))) l₅ 0 s₃) ∷ ‵ (fat fullShare (sliceTy (tyRef (named 2) mut (pointee (Le.the-row .written)))) l₄ 0 s₂) ∷ ‵ (fat fullShare (sliceTy (tyRef (named 1) mut (pointee (Ac.the-row .written)))) l₃ 0 s₁) ∷ ‵ (fat fullShare (sliceTy (tyRef (named 0) mut (pointee (Pr.the-row .written)))) l₂ 0 s₀) ∷ ‵ (fat fullShare Sz′.mir l₁ 0 (valSz z)) ∷ ‵ (froom Sa′.mir l₀ 0) ∷ Dies ∷ []) (runs C Λ En pieces.t-10 (atRet En Post))
       part-2 g7 e₀ e₁ e₂ e₃ =
           calls-value ! fm (said-of.signature .params) Sa.the-row (said-of.ended .kept) (said-of.clauses 𝓤 H A mem run) known-said-of (valsAn, tt) (makesAn, tt) valSa (LL.tells Sa.the-type Sa′.the-laws)
-          ((done′ .answer), tt) (g7, tt) tt (id⊢ 𝓤 (emp 𝓤)) (saidOf (done′ .answer)) (λ r e′. id⊢ 𝓤 (fact 𝓤 (r ≡ (saidOf (done′ .answer))))) (and-then ! (reads ! (from ! (stop !)) (look ! 17 refl)) (no-more !)) (λ g0.
-          land ! (from ! (stop !)) (init ! 23 refl (typedSa (saidOf (done′ .answer)) g0)) $
+          ((done′ .answer), tt) (g7, tt) tt (id⊢ 𝓤 (emp 𝓤)) (saidOf (done′ .answer)) (λ r e′. id⊢ 𝓤 (fact 𝓤 (r ≡ (saidOf (done′ .answer))))) (and-local ! 17 refl (no-more !)) (λ g0.
+          land-in ! 23 refl (typedSa (saidOf (done′ .answer)) g0) $
           returns ! (look ! 23 refl) $ frees-all ! 8 (bare _ _ ∷ bare _ _ ∷ bare _ _ ∷ bare _ _ ∷ bare _ _ ∷ bare _ _ ∷ bare _ _ ∷ bare _ _ ∷ full _ _ _ ∷ full _ _ _ ∷ full _ _ _ ∷ full _ _ _ ∷ full _ _ _ ∷ full _ _ _ ∷ full _ _ _ ∷ full _ _ _ ∷ []) refl refl $
           keep ! (0 ∷ 1 ∷ 2 ∷ 3 ∷ 4 ∷ 5 ∷ 6 ∷ 7 ∷ []) $ by ! (exits g0 e₀ e₁ e₂ e₃))
 
       part-1 : Sq W (‵ (Slice Pr.the-row κ₀ γ₀ b₀ o₀ n₀ ps) ∷ ‵ (flft κ₀ q₀) ∷ ‵ (Slice Ac.the-row κ₁ γ₁ b₁ o₁ n₁ acs) ∷ ‵ (flft κ₁ q₁) ∷ ‵ (Slice Le.the-row κ₂ γ₂ b₂ o₂ n₂ ls) ∷ ‵ (flft κ₂ q₂) ∷ ‵ (Slice Ms.the-row κ₃ γ₃ b₃ o₃ n₃ t) ∷ ‵ (flft κ₃ q₃)
           ∷ ‵ (froom (sliceTy (tyRef erased mut (pointee (Ms.the-row .written)))) l₁₅ 0) ∷ ‵ (froom (tyRef erased mut (pointee (Ms.the-row .written))) l₁₄ 0) ∷ ‵ (froom (sliceTy (tyRef erased mut (pointee (Le.the-row .written)))) l₁₃ 0) ∷ ‵ (froom (tyRef erased mut (pointee (Le.the-row .written))) l₁₂ 0) ∷ ‵ (froom (sliceTy (tyRef erased mut (pointee (Ac.the-row .written)))) l₁₁ 0) ∷ ‵ (froom (tyRef erased mut (pointee (Ac.the-row .written))) l₁₀ 0) ∷ ‵ (froom (sliceTy (tyRef erased mut (pointee (Pr.the-row .written)))) l₉ 0) ∷ ‵ (froom (tyRef erased mut (pointee (Pr.the-row .written))) l₈ 0) ∷ ‵ (froom An′.mir l₇ 0) ∷ ‵ (fat fullShare Ev′.mir l₆ 0 (valEv e)) ∷ ‵ (fat fullShare (sliceTy (tyRef (named 3) mut (pointee (Ms.the-row .written)))) l₅ 0 s₃) ∷ ‵ (fat fullShare (sliceTy (tyRef (named 2) mut (pointee (Le.the-row .written)))) l₄ 0 s₂) ∷ ‵ (fat fullShare (sliceTy (tyRef (named 1) mut (pointee (Ac.the-row .written)))) l₃ 0 s₁) ∷ ‵ (fat fullShare (sliceTy (tyRef (named 0) mut (pointee (Pr.the-row .written)))) l₂ 0 s₀) ∷ ‵ (fat fullShare Sz′.mir l₁ 0 (valSz z)) ∷ ‵ (froom Sa′.mir l₀ 0) ∷ Dies ∷ []) (runs C Λ En pieces.t-1 (atRet En Post))
       part-1 =
-          assigns ! (addr ! (from ! (fld ! refl (hop ! (look-in ! 21 (sub ! 0 refl (whole !))) (stop !))))) (from ! (stop !)) (init ! 15 refl (tt, tt)) $
-          assigns ! (agg ! (and-then ! (reads ! (from ! (stop !)) (look ! 15 refl)) (and-then ! (reads ! (from ! (fld ! refl (stop !))) (look-in ! 21 (sub ! 1 refl (whole !)))) (no-more !)))) (from ! (stop !)) (init ! 14 refl (tt, (tt, (record { fits = room₀ .0 }, tt)))) $
-          assigns ! (addr ! (from ! (fld ! refl (hop ! (look-in ! 20 (sub ! 0 refl (whole !))) (stop !))))) (from ! (stop !)) (init ! 13 refl (tt, tt)) $
-          assigns ! (agg ! (and-then ! (reads ! (from ! (stop !)) (look ! 13 refl)) (and-then ! (reads ! (from ! (fld ! refl (stop !))) (look-in ! 20 (sub ! 1 refl (whole !)))) (no-more !)))) (from ! (stop !)) (init ! 12 refl (tt, (tt, (record { fits = room₁ .0 }, tt)))) $
-          assigns ! (addr ! (from ! (fld ! refl (hop ! (look-in ! 19 (sub ! 0 refl (whole !))) (stop !))))) (from ! (stop !)) (init ! 11 refl (tt, tt)) $
-          assigns ! (agg ! (and-then ! (reads ! (from ! (stop !)) (look ! 11 refl)) (and-then ! (reads ! (from ! (fld ! refl (stop !))) (look-in ! 19 (sub ! 1 refl (whole !)))) (no-more !)))) (from ! (stop !)) (init ! 10 refl (tt, (tt, (record { fits = room₂ .0 }, tt)))) $
-          assigns ! (addr ! (from ! (fld ! refl (hop ! (look-in ! 18 (sub ! 0 refl (whole !))) (stop !))))) (from ! (stop !)) (init ! 9 refl (tt, tt)) $
-          assigns ! (agg ! (and-then ! (reads ! (from ! (stop !)) (look ! 9 refl)) (and-then ! (reads ! (from ! (fld ! refl (stop !))) (look-in ! 18 (sub ! 1 refl (whole !)))) (no-more !)))) (from ! (stop !)) (init ! 8 refl (tt, (tt, (record { fits = room₃ .0 }, tt)))) $
+          lends-again ! 21 15 14 refl refl refl refl (tt, tt) refl refl (tt, (tt, (record { fits = room₀ .0 }, tt))) refl $
+          lends-again ! 20 13 12 refl refl refl refl (tt, tt) refl refl (tt, (tt, (record { fits = room₁ .0 }, tt))) refl $
+          lends-again ! 19 11 10 refl refl refl refl (tt, tt) refl refl (tt, (tt, (record { fits = room₂ .0 }, tt))) refl $
+          lends-again ! 18 9 8 refl refl refl refl (tt, tt) refl refl (tt, (tt, (record { fits = room₃ .0 }, tt))) refl $
           calls ! fm (passed Sz.the-row valsSz makesSz z gz
           ∷ lent Pr.the-row κ₀ q₀ γ₀ b₀ o₀ n₀ ps (done′ .state .proposers) refl room₀
           ∷ lent Ac.the-row κ₁ q₁ γ₁ b₁ o₁ n₁ acs (done′ .state .acceptors) refl room₁
           ∷ lent Le.the-row κ₂ q₂ γ₂ b₂ o₂ n₂ ls (done′ .state .learners) refl room₂
           ∷ lent Ms.the-row κ₃ q₃ γ₃ b₃ o₃ n₃ t (done′ .state .slots) refl room₃
           ∷ passed Ev.the-row valsEv makesEv e ge ∷ [])
-          An.the-row (single-step.clauses 𝓤 H A mem run) known-single-step valAn (EL.tells An.the-type An′.the-laws) (done′ .answer) (λ w. tt) (λ w. id⊢ 𝓤 (emp 𝓤)) (λ w v ws. fact-mono 𝓤 _ _ (λ e′. (e′ .0, e′ .1 .1))) (λ w. (and-then ! (reads ! (from ! (stop !)) (look ! 16 refl)) (and-then ! (reads ! (from ! (stop !)) (look ! 8 refl)) (and-then ! (reads ! (from ! (stop !)) (look ! 6 refl)) (and-then ! (reads ! (from ! (stop !)) (look ! 4 refl)) (and-then ! (reads ! (from ! (stop !)) (look ! 2 refl)) (and-then ! (reads ! (from ! (stop !)) (look ! 11 refl)) (no-more !)))))))) (λ g7 e7.
-          land ! (from ! (stop !)) (init ! 16 refl (typedAn (done′ .answer) g7)) $
+          An.the-row (single-step.clauses 𝓤 H A mem run) known-single-step valAn (EL.tells An.the-type An′.the-laws) (done′ .answer) (λ w. tt) (λ w. id⊢ 𝓤 (emp 𝓤)) (λ w v ws. fact-mono 𝓤 _ _ (λ e′. (e′ .0, e′ .1 .1))) (λ w. (and-local ! 16 refl (and-local ! 8 refl (and-local ! 6 refl (and-local ! 4 refl (and-local ! 2 refl (and-local ! 11 refl (no-more !)))))))) (λ g7 e7.
+          land-in ! 16 refl (typedAn (done′ .answer) g7) $
           forget ! 15 refl $
           forget ! 14 refl $
           forget ! 13 refl $
@@ -235,11 +231,11 @@ module _ {M : Type 1} (𝓤 : URA M) (H : Heap 𝓤) (A : Atoms 𝓤) (W : Given
     walk : ent 𝓤 (onEntry 𝓤 H A this.signature (κ₀, (κ₁, (κ₂, (κ₃, tt)))) (q₀, (q₁, (q₂, (q₃, tt)))) (z, (listAt Pr.the-row b₀ o₀ ps γ₀, (listAt Ac.the-row b₁ o₁ acs γ₁, (listAt Le.the-row b₂ o₂ ls γ₂, (listAt Ms.the-row b₃ o₃ t γ₃, (e, tt)))))) at) (WpFn 𝓤 H C Λ code.function (valSz z ∷ s₀ ∷ s₁ ∷ s₂ ∷ s₃ ∷ valEv e ∷ []) Post)
     walk =
         qed W ((‵ (flft κ₀ q₀) ⊛ ‵ (flft κ₁ q₁) ⊛ ‵ (flft κ₂ q₂) ⊛ ‵ (flft κ₃ q₃) ⊛ ‵ ftrue) ∷ ‵ (owns (Sz.the-row ∷ MutSlice (named 0) κ₀ Pr.the-row ∷ MutSlice (named 1) κ₁ Ac.the-row ∷ MutSlice (named 2) κ₂ Le.the-row ∷ MutSlice (named 3) κ₃ Ms.the-row ∷ Ev.the-row ∷ []) (z, (listAt Pr.the-row b₀ o₀ ps γ₀, (listAt Ac.the-row b₁ o₁ acs γ₁, (listAt Le.the-row b₂ o₂ ls γ₂, (listAt Ms.the-row b₃ o₃ t γ₃, (e, tt)))))) at) ∷ []) ∵ enter ! C Λ code.function (valSz z ∷ s₀ ∷ s₁ ∷ s₂ ∷ s₃ ∷ valEv e ∷ []) _ $
-        alloc1 ! (λ l₀. alloc1 ! (λ l₁. alloc1 ! (λ l₂. alloc1 ! (λ l₃. alloc1 ! (λ l₄. alloc1 ! (λ l₅. alloc1 ! (λ l₆. alloc1 ! (λ l₇. alloc1 ! (λ l₈. alloc1 ! (λ l₉. alloc1 ! (λ l₁₀. alloc1 ! (λ l₁₁. alloc1 ! (λ l₁₂. alloc1 ! (λ l₁₃. alloc1 ! (λ l₁₄. alloc1 ! (λ l₁₅. alloc0 ! $ dies-apart ! 16 $ params1 ! $
+        allocates ! (λ l₀ l₁ l₂ l₃ l₄ l₅ l₆ l₇ l₈ l₉ l₁₀ l₁₁ l₁₂ l₁₃ l₁₄ l₁₅. params1 ! $
         pass1 ! (init ! 15 refl (typedSz z gz)) $ pass1 ! (init ! 14 refl (tt, (tt, (record { fits = room₀ .0 }, tt)))) $ pass1 ! (init ! 13 refl (tt, (tt, (record { fits = room₁ .0 }, tt)))) $ pass1 ! (init ! 12 refl (tt, (tt, (record { fits = room₂ .0 }, tt)))) $ pass1 ! (init ! 11 refl (tt, (tt, (record { fits = room₃ .0 }, tt)))) $ pass1 ! (init ! 10 refl (typedEv e ge)) $ pass0 ! $
         move ! (18 ∷ []) $ fsplit ! $ move ! (1 ∷ []) $ fsplit ! $ move ! (1 ∷ []) $ fsplit ! $ move ! (1 ∷ []) $ fsplit ! $ move ! (1 ∷ []) $ fsplit ! $
         move ! (23 ∷ []) $ split ! $ move ! (1 ∷ []) $ split ! $ move ! (1 ∷ []) $ split ! $ move ! (1 ∷ []) $ split ! $
-        keep ! (9 ∷ 4 ∷ 8 ∷ 3 ∷ 7 ∷ 2 ∷ 5 ∷ 0 ∷ 12 ∷ 13 ∷ 14 ∷ 15 ∷ 16 ∷ 17 ∷ 18 ∷ 19 ∷ 20 ∷ 21 ∷ 22 ∷ 23 ∷ 24 ∷ 25 ∷ 26 ∷ 27 ∷ 11 ∷ []) $ part-1 l₀ l₁ l₂ l₃ l₄ l₅ l₆ l₇ l₈ l₉ l₁₀ l₁₁ l₁₂ l₁₃ l₁₄ l₁₅))))))))))))))))
+        keep ! (9 ∷ 4 ∷ 8 ∷ 3 ∷ 7 ∷ 2 ∷ 5 ∷ 0 ∷ 12 ∷ 13 ∷ 14 ∷ 15 ∷ 16 ∷ 17 ∷ 18 ∷ 19 ∷ 20 ∷ 21 ∷ 22 ∷ 23 ∷ 24 ∷ 25 ∷ 26 ∷ 27 ∷ 11 ∷ []) $ part-1 l₀ l₁ l₂ l₃ l₄ l₅ l₆ l₇ l₈ l₉ l₁₀ l₁₁ l₁₂ l₁₃ l₁₄ l₁₅)
 
 module _ {M : Type 1} (𝓤 : URA M) (H : Heap 𝓤) (A : Atoms 𝓤) (W : Given 𝓤 H A) (mem : Memory → SProp 𝓤) (run : Routine → Fun 𝓤) (𝓣 : Tables 𝓤 H) (known-single-step : Triple 𝓤 (𝓣 .C #single-step) (Of-single-step 𝓤 H A mem run)) (known-said-of : Triple 𝓤 (𝓣 .C #said-of) (Of-said-of 𝓤 H A mem run)) where
   f-walks : Walks 𝓤 H A this.ended stayed (WpFn 𝓤 H (𝓣 .C) (𝓣 .Λ) code.function) (this.clauses 𝓤 H A mem run)

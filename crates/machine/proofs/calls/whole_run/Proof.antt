@@ -19,7 +19,7 @@ use contract.Monad.{Fun, fact, factI, fact-mono}
 use contract.Running.{givenOf, tables, tablesOf}
 use types.Kit.{Given, Item, ‵, _⊛_, ⋆, runs, atRet, Sq, _$_, _∵_, !, qed, by, move, keep, split, join, fsplit, fjoin, suffices, frame, done}
 use types.Part.{agg, rep, whole, sub, look-in}
-use types.Run.{look, init, forget, stop, hop, fld, from, load as reads, lit, addr, of-opd, and-then, no-more, assigns, land, returns, enter, alloc1, alloc0, params1, pass1, pass0}
+use types.Run.{look, init, forget, stop, fld, from, load as reads, lit, addr, of-opd, and-then, no-more, assigns, returns, enter, params1, pass1, pass0}
 use sound.WpLaws.{FmC, fmOf, WpFn-mono}
 use denote.RattleType.{owns}
 use denote.Laws.{Is, Makes}
@@ -43,7 +43,8 @@ use Rattle.machine.specs.Slots.{takenSlot}
 use Rattle.machine.specs.Running.{Ran, driven, Drives}
 use Rattle.machine.specs.Calls.{wholeRunNo}
 use Rattle.machine.specs.Counting.{eventsNo, turnsOf}
-use Rattle.machine.proofs.Frees.{full, bare, dies-apart, frees-all}
+use Rattle.machine.proofs.Frees.{full, bare, allocates, frees-all}
+use Rattle.machine.proofs.Moves.{and-local, land-in, lends-again}
 use Rattle.machine.proofs.Relending.{Slice, listAt}
 use Rattle.machine.proofs.CallsByValue.{calls-value}
 use Rattle.machine.proofs.CallsWithSlices.{passed, lent, handed, calls}
@@ -332,8 +333,7 @@ module _ {M : Type 1} (𝓤 : URA M) (H : Heap 𝓤) (A : Atoms 𝓤) (W : Given
           assigns ! (agg ! (and-then ! (reads ! (from ! (stop !)) (look ! 17 refl)) (and-then ! (lit ! tt) (no-more !)))) (from ! (stop !)) (init ! 16 refl (tt, (tt, (record { fits = lit< tt }, tt)))) $
           assigns ! (addr ! (from ! (stop !))) (from ! (stop !)) (init ! 15 refl (tt, tt)) $
           assigns ! (agg ! (and-then ! (reads ! (from ! (stop !)) (look ! 15 refl)) (and-then ! (lit ! tt) (no-more !)))) (from ! (stop !)) (init ! 14 refl (tt, (tt, (record { fits = lit< tt }, tt)))) $
-          assigns ! (addr ! (from ! (fld ! refl (hop ! (look-in ! 40 (sub ! 0 refl (whole !))) (stop !))))) (from ! (stop !)) (init ! 13 refl (tt, tt)) $
-          assigns ! (agg ! (and-then ! (reads ! (from ! (stop !)) (look ! 13 refl)) (and-then ! (reads ! (from ! (fld ! refl (stop !))) (look-in ! 40 (sub ! 1 refl (whole !)))) (no-more !)))) (from ! (stop !)) (init ! 12 refl (tt, (tt, (record { fits = room₁ .0 }, tt)))) $
+          lends-again ! 40 13 12 refl refl refl refl (tt, tt) refl refl (tt, (tt, (record { fits = room₁ .0 }, tt))) refl $
           move ! (6 ∷ 7 ∷ 4 ∷ 5 ∷ 2 ∷ 3 ∷ 0 ∷ 1 ∷ 8 ∷ 9 ∷ 10 ∷ 11 ∷ []) $
           calls ! fm (passed Sz.the-row valsSz makesSz z gz
           ∷ lent Pr.the-row (ν₂ ∷ []) fullShare γ₂ l₁₀ 0 8 ps₀ (done′ .proposers) long₂ room₂
@@ -343,8 +343,8 @@ module _ {M : Type 1} (𝓤 : URA M) (H : Heap 𝓤) (A : Atoms 𝓤) (W : Given
           ∷ handed u64 κ₀ q₀ γ₀ b₀ o₀ events
           ∷ lent u64 κ₁ q₁ γ₁ b₁ o₁ n₁ log (done′ .log) refl room₁
           ∷ passed usize (uint-vals w64) (uint-makes 𝓤 H A W w64) turns g7 ∷ [])
-          Nothing (drive.clauses 𝓤 H A mem run) known-drive (λ _. vunit) nothing-tells tt (λ w. tt) (λ w. factI 𝓤 _ (emp 𝓤) drives) (λ w v ws. fact-mono 𝓤 ((ws .1 .0 ≡ (done′ .proposers)) × ((ws .1 .1 .0 ≡ (done′ .acceptors)) × ((ws .1 .1 .1 .0 ≡ (done′ .learners)) × ((ws .1 .1 .1 .1 .0 ≡ (done′ .slots)) × ((ws .1 .1 .1 .1 .1 .1 .0 ≡ (done′ .log))))))) ((v ≡ tt) × ((ws .1 .0 ≡ (done′ .proposers)) × ((ws .1 .1 .0 ≡ (done′ .acceptors)) × ((ws .1 .1 .1 .0 ≡ (done′ .learners)) × ((ws .1 .1 .1 .1 .0 ≡ (done′ .slots)) × ((ws .1 .1 .1 .1 .1 .1 .0 ≡ (done′ .log)))))))) (λ e′. (refl, e′))) (λ w. (and-then ! (reads ! (from ! (stop !)) (look ! 32 refl)) (and-then ! (reads ! (from ! (stop !)) (look ! 10 refl)) (and-then ! (reads ! (from ! (stop !)) (look ! 8 refl)) (and-then ! (reads ! (from ! (stop !)) (look ! 6 refl)) (and-then ! (reads ! (from ! (stop !)) (look ! 4 refl)) (and-then ! (reads ! (from ! (stop !)) (look ! 31 refl)) (and-then ! (reads ! (from ! (stop !)) (look ! 2 refl)) (and-then ! (reads ! (from ! (stop !)) (look ! 26 refl)) (no-more !)))))))))) (λ _ e19.
-          land ! (from ! (stop !)) (init ! 24 refl (tt, tt)) $
+          Nothing (drive.clauses 𝓤 H A mem run) known-drive (λ _. vunit) nothing-tells tt (λ w. tt) (λ w. factI 𝓤 _ (emp 𝓤) drives) (λ w v ws. fact-mono 𝓤 ((ws .1 .0 ≡ (done′ .proposers)) × ((ws .1 .1 .0 ≡ (done′ .acceptors)) × ((ws .1 .1 .1 .0 ≡ (done′ .learners)) × ((ws .1 .1 .1 .1 .0 ≡ (done′ .slots)) × ((ws .1 .1 .1 .1 .1 .1 .0 ≡ (done′ .log))))))) ((v ≡ tt) × ((ws .1 .0 ≡ (done′ .proposers)) × ((ws .1 .1 .0 ≡ (done′ .acceptors)) × ((ws .1 .1 .1 .0 ≡ (done′ .learners)) × ((ws .1 .1 .1 .1 .0 ≡ (done′ .slots)) × ((ws .1 .1 .1 .1 .1 .1 .0 ≡ (done′ .log)))))))) (λ e′. (refl, e′))) (λ w. (and-local ! 32 refl (and-local ! 10 refl (and-local ! 8 refl (and-local ! 6 refl (and-local ! 4 refl (and-local ! 31 refl (and-local ! 2 refl (and-local ! 26 refl (no-more !)))))))))) (λ _ e19.
+          land-in ! 24 refl (tt, tt) $
           takes-own ! tt 31 Pr.the-row valPr (LL.tells Pr.the-type Pr′.the-laws) 8 (done′ .proposers) l₁₀ refl $
           takes-own ! tt 27 Ac.the-row valAc (LL.tells Ac.the-type Ac′.the-laws) 7 (done′ .acceptors) l₁₂ refl $
           takes-own ! tt 23 Le.the-row valLe (LL.tells Le.the-type Le′.the-laws) 8 (done′ .learners) l₁₄ refl $
@@ -359,8 +359,8 @@ module _ {M : Type 1} (𝓤 : URA M) (H : Heap 𝓤) (A : Atoms 𝓤) (W : Given
           assigns ! (addr ! (from ! (stop !))) (from ! (stop !)) (init ! 23 refl (tt, tt)) $
           assigns ! (agg ! (and-then ! (reads ! (from ! (stop !)) (look ! 23 refl)) (and-then ! (lit ! tt) (no-more !)))) (from ! (stop !)) (init ! 22 refl (tt, (tt, (record { fits = lit< tt }, tt)))) $
           calls-lent ! fm Ms.the-row (plain (λ _. usize) ∷ []) Nothing (yes, tt) (λ _. vunit) nothing-tells l₁₆ 0 512 t₀ long₅ (λ ν. (uint-vals w64, tt)) (λ ν. (uint-makes 𝓤 H A W w64, tt)) (λ ν. (mn, tt)) (λ ν. (g8, tt))
-          (fill-messages.clauses 𝓤 H A mem run) known-fill-messages room₅ tt t′ (λ ν δ. tt) (λ ν δ. factI 𝓤 _ (emp 𝓤) in-m) (λ ν δ r ws. fact-mono 𝓤 (ws .0 ≡ t′) ((r ≡ tt) × (ws .0 ≡ t′)) (λ e′. (refl, e′))) (λ ν δ. (and-then ! (reads ! (from ! (stop !)) (look ! 22 refl)) (and-then ! (reads ! (from ! (stop !)) (look ! 35 refl)) (no-more !)))) (λ _ e21.
-          land ! (from ! (stop !)) (init ! 24 refl (tt, tt)) $
+          (fill-messages.clauses 𝓤 H A mem run) known-fill-messages room₅ tt t′ (λ ν δ. tt) (λ ν δ. factI 𝓤 _ (emp 𝓤) in-m) (λ ν δ r ws. fact-mono 𝓤 (ws .0 ≡ t′) ((r ≡ tt) × (ws .0 ≡ t′)) (λ e′. (refl, e′))) (λ ν δ. (and-local ! 22 refl (and-local ! 35 refl (no-more !)))) (λ _ e21.
+          land-in ! 24 refl (tt, tt) $
           forget ! 24 refl $
           forget ! 23 refl $
           forget ! 22 refl $
@@ -371,7 +371,7 @@ module _ {M : Type 1} (𝓤 : URA M) (H : Heap 𝓤) (A : Atoms 𝓤) (W : Given
       part-6 ν₂ γ₂ ν₃ γ₃ ν₄ γ₄ g5 g6 g7 g8 g9 g11 g13 =
           calls-value ! fm (taken-slot.signature .params) Ms.the-row (taken-slot.ended .kept) (taken-slot.clauses 𝓤 H A mem run) known-taken-slot tt tt valMs (LL.tells Ms.the-type Ms′.the-laws)
           tt tt tt (id⊢ 𝓤 (emp 𝓤)) takenSlot (λ r e′. id⊢ 𝓤 (fact 𝓤 (r ≡ takenSlot))) (no-more !) (λ g15.
-          land ! (from ! (stop !)) (init ! 26 refl (typedMs takenSlot g15)) $
+          land-in ! 26 refl (typedMs takenSlot g15) $
           assigns ! (rep ! 512 (reads ! (from ! (stop !)) (look ! 26 refl))) (from ! (stop !)) (init ! 25 refl (copied-typed 𝓤 H A W Ms.the-row (LL.lawful Ms.the-type Ms′.the-laws 𝓤 H A W) takenSlot (valMs takenSlot) g15 512)) $
           lends-own ! tt 25 Ms.the-row tt makesMs 512 t₀ long₅ room₅ l₁₆ (arrayVal (replicate 512 (valMs takenSlot))) (copied Ms.the-row takenSlot (valMs takenSlot) g15 512) refl (λ ν₅ γ₅.
           part-7 ν₂ γ₂ ν₃ γ₃ ν₄ γ₄ ν₅ γ₅ g5 g6 g7 g8 g9 g11 g13 g15))
@@ -381,7 +381,7 @@ module _ {M : Type 1} (𝓤 : URA M) (H : Heap 𝓤) (A : Atoms 𝓤) (W : Given
       part-5 ν₂ γ₂ ν₃ γ₃ g5 g6 g7 g8 g9 g11 =
           calls-value ! fm (learner-fresh.signature .params) Le.the-row (learner-fresh.ended .kept) (learner-fresh.clauses 𝓤 H A mem run) known-learner-fresh tt tt valLe (LL.tells Le.the-type Le′.the-laws)
           tt tt tt (id⊢ 𝓤 (emp 𝓤)) freshLearner (λ r e′. id⊢ 𝓤 (fact 𝓤 (r ≡ freshLearner))) (no-more !) (λ g13.
-          land ! (from ! (stop !)) (init ! 26 refl (typedLe freshLearner g13)) $
+          land-in ! 26 refl (typedLe freshLearner g13) $
           assigns ! (rep ! 8 (reads ! (from ! (stop !)) (look ! 26 refl))) (from ! (stop !)) (init ! 25 refl (copied-typed 𝓤 H A W Le.the-row (LL.lawful Le.the-type Le′.the-laws 𝓤 H A W) freshLearner (valLe freshLearner) g13 8)) $
           lends-own ! tt 25 Le.the-row tt makesLe 8 ls₀ long₄ room₄ l₁₄ (arrayVal (replicate 8 (valLe freshLearner))) (copied Le.the-row freshLearner (valLe freshLearner) g13 8) refl (λ ν₄ γ₄.
           part-6 ν₂ γ₂ ν₃ γ₃ ν₄ γ₄ g5 g6 g7 g8 g9 g11 g13))
@@ -391,7 +391,7 @@ module _ {M : Type 1} (𝓤 : URA M) (H : Heap 𝓤) (A : Atoms 𝓤) (W : Given
       part-4 ν₂ γ₂ g5 g6 g7 g8 g9 =
           calls-value ! fm (acceptor-fresh.signature .params) Ac.the-row (acceptor-fresh.ended .kept) (acceptor-fresh.clauses 𝓤 H A mem run) known-acceptor-fresh tt tt valAc (LL.tells Ac.the-type Ac′.the-laws)
           tt tt tt (id⊢ 𝓤 (emp 𝓤)) freshAcceptor (λ r e′. id⊢ 𝓤 (fact 𝓤 (r ≡ freshAcceptor))) (no-more !) (λ g11.
-          land ! (from ! (stop !)) (init ! 26 refl (typedAc freshAcceptor g11)) $
+          land-in ! 26 refl (typedAc freshAcceptor g11) $
           assigns ! (rep ! 7 (reads ! (from ! (stop !)) (look ! 26 refl))) (from ! (stop !)) (init ! 25 refl (copied-typed 𝓤 H A W Ac.the-row (LL.lawful Ac.the-type Ac′.the-laws 𝓤 H A W) freshAcceptor (valAc freshAcceptor) g11 7)) $
           lends-own ! tt 25 Ac.the-row tt makesAc 7 acs₀ long₃ room₃ l₁₂ (arrayVal (replicate 7 (valAc freshAcceptor))) (copied Ac.the-row freshAcceptor (valAc freshAcceptor) g11 7) refl (λ ν₃ γ₃.
           part-5 ν₂ γ₂ ν₃ γ₃ g5 g6 g7 g8 g9 g11))
@@ -401,7 +401,7 @@ module _ {M : Type 1} (𝓤 : URA M) (H : Heap 𝓤) (A : Atoms 𝓤) (W : Given
       part-3 g5 g6 g7 g8 =
           calls-value ! fm (proposer-fresh.signature .params) Pr.the-row (proposer-fresh.ended .kept) (proposer-fresh.clauses 𝓤 H A mem run) known-proposer-fresh tt tt valPr (LL.tells Pr.the-type Pr′.the-laws)
           tt tt tt (id⊢ 𝓤 (emp 𝓤)) freshProposer (λ r e′. id⊢ 𝓤 (fact 𝓤 (r ≡ freshProposer))) (no-more !) (λ g9.
-          land ! (from ! (stop !)) (init ! 26 refl (typedPr freshProposer g9)) $
+          land-in ! 26 refl (typedPr freshProposer g9) $
           assigns ! (rep ! 8 (reads ! (from ! (stop !)) (look ! 26 refl))) (from ! (stop !)) (init ! 25 refl (copied-typed 𝓤 H A W Pr.the-row (LL.lawful Pr.the-type Pr′.the-laws 𝓤 H A W) freshProposer (valPr freshProposer) g9 8)) $
           lends-own ! tt 25 Pr.the-row tt makesPr 8 ps₀ long₂ room₂ l₁₀ (arrayVal (replicate 8 (valPr freshProposer))) (copied Pr.the-row freshProposer (valPr freshProposer) g9 8) refl (λ ν₂ γ₂.
           part-4 ν₂ γ₂ g5 g6 g7 g8 g9))
@@ -410,11 +410,11 @@ module _ {M : Type 1} (𝓤 : URA M) (H : Heap 𝓤) (A : Atoms 𝓤) (W : Given
           ∷ ‵ (froom (sliceTy (tyRef erased mut (pointee (u64 .written)))) l₃₁ 0) ∷ ‵ (froom (tyRef erased mut (pointee (u64 .written))) l₃₀ 0) ∷ ‵ (froom (sliceTy (tyRef erased mut (pointee (Ms.the-row .written)))) l₂₉ 0) ∷ ‵ (froom (tyRef erased mut (tyArray (pointee (Ms.the-row .written)) 512)) l₂₈ 0) ∷ ‵ (froom (sliceTy (tyRef erased mut (pointee (Le.the-row .written)))) l₂₇ 0) ∷ ‵ (froom (tyRef erased mut (tyArray (pointee (Le.the-row .written)) 8)) l₂₆ 0) ∷ ‵ (froom (sliceTy (tyRef erased mut (pointee (Ac.the-row .written)))) l₂₅ 0) ∷ ‵ (froom (tyRef erased mut (tyArray (pointee (Ac.the-row .written)) 7)) l₂₄ 0) ∷ ‵ (froom (sliceTy (tyRef erased mut (pointee (Pr.the-row .written)))) l₂₃ 0) ∷ ‵ (froom (tyRef erased mut (tyArray (pointee (Pr.the-row .written)) 8)) l₂₂ 0) ∷ ‵ (froom (sliceTy (tyRef erased mut (pointee (Ms.the-row .written)))) l₂₁ 0) ∷ ‵ (froom (tyRef erased mut (tyArray (pointee (Ms.the-row .written)) 512)) l₂₀ 0) ∷ ‵ (froom tyUnit l₁₉ 0) ∷ ‵ (froom word l₁₈ 0) ∷ ‵ (froom word l₁₇ 0) ∷ ‵ (froom (tyArray Ms′.mir 512) l₁₆ 0) ∷ ‵ (froom Ms′.mir l₁₅ 0) ∷ ‵ (froom (tyArray Le′.mir 8) l₁₄ 0) ∷ ‵ (froom Le′.mir l₁₃ 0) ∷ ‵ (froom (tyArray Ac′.mir 7) l₁₂ 0) ∷ ‵ (froom Ac′.mir l₁₁ 0) ∷ ‵ (froom (tyArray Pr′.mir 8) l₁₀ 0) ∷ ‵ (froom Pr′.mir l₉ 0) ∷ ‵ (froom word l₈ 0) ∷ ‵ (froom word l₇ 0) ∷ ‵ (fat fullShare byte l₆ 0 (vint w8 k)) ∷ ‵ (fat fullShare byte l₅ 0 (vint w8 counted)) ∷ ‵ (fat fullShare half l₄ 0 (vint w16 n)) ∷ ‵ (fat fullShare (sliceTy (tyRef (named 1) mut (pointee (u64 .written)))) l₃ 0 s₁) ∷ ‵ (fat fullShare (sliceTy (tyRef (named 0) imm (pointee (u64 .written)))) l₂ 0 s₀) ∷ ‵ (fat fullShare Sz′.mir l₁ 0 (valSz z)) ∷ ‵ (froom byte l₀ 0) ∷ Dies ∷ []) (runs C Λ En pieces.t-5 (atRet En Post))
       part-2 g5 g6 =
           calls-value ! fm (count-if.signature .params) usize (count-if.ended .kept) (count-if.clauses 𝓤 H A mem run) known-count-if (uint-vals w8, (uint-vals w16, tt)) (uint-makes 𝓤 H A W w8, (uint-makes 𝓤 H A W w16, tt)) (vint w64) (uint-tells w64)
-          (k, (n, tt)) (g6, (gn, tt)) tt (id⊢ 𝓤 (emp 𝓤)) turns (λ r e′. id⊢ 𝓤 (fact 𝓤 (r ≡ turns))) (and-then ! (reads ! (from ! (stop !)) (look ! 30 refl)) (and-then ! (reads ! (from ! (stop !)) (look ! 32 refl)) (no-more !))) (λ g7.
-          land ! (from ! (stop !)) (init ! 28 refl (tt, record { fits = g7 .1 })) $
+          (k, (n, tt)) (g6, (gn, tt)) tt (id⊢ 𝓤 (emp 𝓤)) turns (λ r e′. id⊢ 𝓤 (fact 𝓤 (r ≡ turns))) (and-local ! 30 refl (and-local ! 32 refl (no-more !))) (λ g7.
+          land-in ! 28 refl (tt, record { fits = g7 .1 }) $
           calls-value ! fm (slots-if.signature .params) usize (slots-if.ended .kept) (slots-if.clauses 𝓤 H A mem run) known-slots-if (uint-vals w8, (valsSz, tt)) (uint-makes 𝓤 H A W w8, (makesSz, tt)) (vint w64) (uint-tells w64)
-          (k, (z, tt)) (g6, (gz, tt)) tt (id⊢ 𝓤 (emp 𝓤)) mn (λ r e′. id⊢ 𝓤 (fact 𝓤 (r ≡ mn))) (and-then ! (reads ! (from ! (stop !)) (look ! 30 refl)) (and-then ! (reads ! (from ! (stop !)) (look ! 35 refl)) (no-more !))) (λ g8.
-          land ! (from ! (stop !)) (init ! 27 refl (tt, record { fits = g8 .1 })) $
+          (k, (z, tt)) (g6, (gz, tt)) tt (id⊢ 𝓤 (emp 𝓤)) mn (λ r e′. id⊢ 𝓤 (fact 𝓤 (r ≡ mn))) (and-local ! 30 refl (and-local ! 35 refl (no-more !))) (λ g8.
+          land-in ! 27 refl (tt, record { fits = g8 .1 }) $
           part-3 g5 g6 g7 g8))
 
       part-1 : Sq W (‵ (ShrSlice (named 0) κ₀ u64 .own (listAt u64 b₀ o₀ events γ₀) (s₀ ∷ [])) ∷ ‵ (flft κ₀ q₀) ∷ ‵ (Slice u64 κ₁ γ₁ b₁ o₁ n₁ log) ∷ ‵ (flft κ₁ q₁)
@@ -423,11 +423,11 @@ module _ {M : Type 1} (𝓤 : URA M) (H : Heap 𝓤) (A : Atoms 𝓤) (W : Given
           assigns ! (of-opd ! (reads ! (from ! (fld ! refl (stop !))) (look-in ! 33 (sub ! 1 refl (whole !))))) (from ! (stop !)) (init ! 18 refl (tt, record { fits = room₀ .0 })) $
           assigns ! (of-opd ! (reads ! (from ! (fld ! refl (stop !))) (look-in ! 32 (sub ! 1 refl (whole !))))) (from ! (stop !)) (init ! 17 refl (tt, record { fits = room₁ .0 })) $
           calls-value ! fm (events-no.signature .params) u8 (events-no.ended .kept) (events-no.clauses 𝓤 H A mem run) known-events-no (uint-vals w64, (uint-vals w64, (uint-vals w16, tt))) (uint-makes 𝓤 H A W w64, (uint-makes 𝓤 H A W w64, (uint-makes 𝓤 H A W w16, tt))) (vint w8) (uint-tells w8)
-          (n₀, (n₁, (n, tt))) ((refl, room₀ .0), ((refl, room₁ .0), (gn, tt))) tt (id⊢ 𝓤 (emp 𝓤)) counted (λ r e′. id⊢ 𝓤 (fact 𝓤 (r ≡ counted))) (and-then ! (reads ! (from ! (stop !)) (look ! 19 refl)) (and-then ! (reads ! (from ! (stop !)) (look ! 18 refl)) (and-then ! (reads ! (from ! (stop !)) (look ! 32 refl)) (no-more !)))) (λ g5.
-          land ! (from ! (stop !)) (init ! 30 refl (tt, record { fits = g5 .1 })) $
+          (n₀, (n₁, (n, tt))) ((refl, room₀ .0), ((refl, room₁ .0), (gn, tt))) tt (id⊢ 𝓤 (emp 𝓤)) counted (λ r e′. id⊢ 𝓤 (fact 𝓤 (r ≡ counted))) (and-local ! 19 refl (and-local ! 18 refl (and-local ! 32 refl (no-more !)))) (λ g5.
+          land-in ! 30 refl (tt, record { fits = g5 .1 }) $
           calls-value ! fm (whole-run-no.signature .params) u8 (whole-run-no.ended .kept) (whole-run-no.clauses 𝓤 H A mem run) known-whole-run-no (valsSz, (uint-vals w8, tt)) (makesSz, (uint-makes 𝓤 H A W w8, tt)) (vint w8) (uint-tells w8)
-          (z, (counted, tt)) (gz, (g5, tt)) tt (id⊢ 𝓤 (emp 𝓤)) k (λ r e′. id⊢ 𝓤 (fact 𝓤 (r ≡ k))) (and-then ! (reads ! (from ! (stop !)) (look ! 35 refl)) (and-then ! (reads ! (from ! (stop !)) (look ! 31 refl)) (no-more !))) (λ g6.
-          land ! (from ! (stop !)) (init ! 29 refl (tt, record { fits = g6 .1 })) $
+          (z, (counted, tt)) (gz, (g5, tt)) tt (id⊢ 𝓤 (emp 𝓤)) k (λ r e′. id⊢ 𝓤 (fact 𝓤 (r ≡ k))) (and-local ! 35 refl (and-local ! 31 refl (no-more !))) (λ g6.
+          land-in ! 29 refl (tt, record { fits = g6 .1 }) $
           forget ! 18 refl $
           forget ! 17 refl $
           part-2 g5 g6))
@@ -435,11 +435,11 @@ module _ {M : Type 1} (𝓤 : URA M) (H : Heap 𝓤) (A : Atoms 𝓤) (W : Given
     walk : ent 𝓤 (onEntry 𝓤 H A this.signature (κ₀, (κ₁, tt)) (q₀, (q₁, tt)) (z, (listAt u64 b₀ o₀ events γ₀, (listAt u64 b₁ o₁ log γ₁, (n, tt)))) at) (WpFn 𝓤 H C Λ code.function (valSz z ∷ s₀ ∷ s₁ ∷ vint w16 n ∷ []) Post)
     walk =
         qed W ((‵ (flft κ₀ q₀) ⊛ ‵ (flft κ₁ q₁) ⊛ ‵ ftrue) ∷ ‵ (owns (Sz.the-row ∷ ShrSlice (named 0) κ₀ u64 ∷ MutSlice (named 1) κ₁ u64 ∷ u16 ∷ []) (z, (listAt u64 b₀ o₀ events γ₀, (listAt u64 b₁ o₁ log γ₁, (n, tt)))) at) ∷ []) ∵ enter ! C Λ code.function (valSz z ∷ s₀ ∷ s₁ ∷ vint w16 n ∷ []) _ $
-        alloc1 ! (λ l₀. alloc1 ! (λ l₁. alloc1 ! (λ l₂. alloc1 ! (λ l₃. alloc1 ! (λ l₄. alloc1 ! (λ l₅. alloc1 ! (λ l₆. alloc1 ! (λ l₇. alloc1 ! (λ l₈. alloc1 ! (λ l₉. alloc1 ! (λ l₁₀. alloc1 ! (λ l₁₁. alloc1 ! (λ l₁₂. alloc1 ! (λ l₁₃. alloc1 ! (λ l₁₄. alloc1 ! (λ l₁₅. alloc1 ! (λ l₁₆. alloc1 ! (λ l₁₇. alloc1 ! (λ l₁₈. alloc1 ! (λ l₁₉. alloc1 ! (λ l₂₀. alloc1 ! (λ l₂₁. alloc1 ! (λ l₂₂. alloc1 ! (λ l₂₃. alloc1 ! (λ l₂₄. alloc1 ! (λ l₂₅. alloc1 ! (λ l₂₆. alloc1 ! (λ l₂₇. alloc1 ! (λ l₂₈. alloc1 ! (λ l₂₉. alloc1 ! (λ l₃₀. alloc1 ! (λ l₃₁. alloc0 ! $ dies-apart ! 32 $ params1 ! $
+        allocates ! (λ l₀ l₁ l₂ l₃ l₄ l₅ l₆ l₇ l₈ l₉ l₁₀ l₁₁ l₁₂ l₁₃ l₁₄ l₁₅ l₁₆ l₁₇ l₁₈ l₁₉ l₂₀ l₂₁ l₂₂ l₂₃ l₂₄ l₂₅ l₂₆ l₂₇ l₂₈ l₂₉ l₃₀ l₃₁. params1 ! $
         pass1 ! (init ! 31 refl (typedSz z gz)) $ pass1 ! (init ! 30 refl (tt, (tt, (record { fits = room₀ .0 }, tt)))) $ pass1 ! (init ! 29 refl (tt, (tt, (record { fits = room₁ .0 }, tt)))) $ pass1 ! (init ! 28 refl (tt, record { fits = gn .1 })) $ pass0 ! $
         move ! (34 ∷ []) $ fsplit ! $ move ! (1 ∷ []) $ fsplit ! $ move ! (1 ∷ []) $ fsplit ! $
         move ! (37 ∷ []) $ split ! $ move ! (1 ∷ []) $ split ! $
-        keep ! (5 ∷ 2 ∷ 3 ∷ 0 ∷ 8 ∷ 9 ∷ 10 ∷ 11 ∷ 12 ∷ 13 ∷ 14 ∷ 15 ∷ 16 ∷ 17 ∷ 18 ∷ 19 ∷ 20 ∷ 21 ∷ 22 ∷ 23 ∷ 24 ∷ 25 ∷ 26 ∷ 27 ∷ 28 ∷ 29 ∷ 30 ∷ 31 ∷ 32 ∷ 33 ∷ 34 ∷ 35 ∷ 36 ∷ 37 ∷ 38 ∷ 39 ∷ 7 ∷ []) $ part-1 l₀ l₁ l₂ l₃ l₄ l₅ l₆ l₇ l₈ l₉ l₁₀ l₁₁ l₁₂ l₁₃ l₁₄ l₁₅ l₁₆ l₁₇ l₁₈ l₁₉ l₂₀ l₂₁ l₂₂ l₂₃ l₂₄ l₂₅ l₂₆ l₂₇ l₂₈ l₂₉ l₃₀ l₃₁))))))))))))))))))))))))))))))))
+        keep ! (5 ∷ 2 ∷ 3 ∷ 0 ∷ 8 ∷ 9 ∷ 10 ∷ 11 ∷ 12 ∷ 13 ∷ 14 ∷ 15 ∷ 16 ∷ 17 ∷ 18 ∷ 19 ∷ 20 ∷ 21 ∷ 22 ∷ 23 ∷ 24 ∷ 25 ∷ 26 ∷ 27 ∷ 28 ∷ 29 ∷ 30 ∷ 31 ∷ 32 ∷ 33 ∷ 34 ∷ 35 ∷ 36 ∷ 37 ∷ 38 ∷ 39 ∷ 7 ∷ []) $ part-1 l₀ l₁ l₂ l₃ l₄ l₅ l₆ l₇ l₈ l₉ l₁₀ l₁₁ l₁₂ l₁₃ l₁₄ l₁₅ l₁₆ l₁₇ l₁₈ l₁₉ l₂₀ l₂₁ l₂₂ l₂₃ l₂₄ l₂₅ l₂₆ l₂₇ l₂₈ l₂₉ l₃₀ l₃₁)
 
 module _ {M : Type 1} (𝓤 : URA M) (H : Heap 𝓤) (A : Atoms 𝓤) (W : Given 𝓤 H A) (mem : Memory → SProp 𝓤) (run : Routine → Fun 𝓤) (𝓣 : Tables 𝓤 H) (known-events-no : Triple 𝓤 (𝓣 .C #events-no) (Of-events-no 𝓤 H A mem run)) (known-whole-run-no : Triple 𝓤 (𝓣 .C #whole-run-no) (Of-whole-run-no 𝓤 H A mem run)) (known-count-if : Triple 𝓤 (𝓣 .C #count-if) (Of-count-if 𝓤 H A mem run)) (known-slots-if : Triple 𝓤 (𝓣 .C #slots-if) (Of-slots-if 𝓤 H A mem run)) (known-proposer-fresh : Triple 𝓤 (𝓣 .C #proposer-fresh) (Of-proposer-fresh 𝓤 H A mem run)) (known-acceptor-fresh : Triple 𝓤 (𝓣 .C #acceptor-fresh) (Of-acceptor-fresh 𝓤 H A mem run)) (known-learner-fresh : Triple 𝓤 (𝓣 .C #learner-fresh) (Of-learner-fresh 𝓤 H A mem run)) (known-taken-slot : Triple 𝓤 (𝓣 .C #taken-slot) (Of-taken-slot 𝓤 H A mem run)) (known-fill-messages : Triple 𝓤 (𝓣 .C #fill-messages) (Of-fill-messages 𝓤 H A mem run)) (known-drive : Triple 𝓤 (𝓣 .C #drive) (Of-drive 𝓤 H A mem run)) where
   f-walks : Walks 𝓤 H A this.ended stayed (WpFn 𝓤 H (𝓣 .C) (𝓣 .Λ) code.function) (this.clauses 𝓤 H A mem run)

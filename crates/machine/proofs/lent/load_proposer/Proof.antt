@@ -18,7 +18,7 @@ use ghost.Atoms.{Atoms}
 use contract.Monad.{Fun, fact, factI}
 use contract.Running.{givenOf, tables, tablesOf}
 use types.Kit.{Given, Item, ‵, _⊛_, ⋆, runs, atRet, Sq, _$_, _∵_, !, qed, by, move, keep, split, join, fsplit, fjoin, suffices, frame, done}
-use types.Run.{look, init, stop, from, load as reads, and-then, no-more, land, returns, enter, alloc1, alloc0, params1, pass1, pass0}
+use types.Run.{look, init, no-more, returns, enter, params1, pass1, pass0}
 use sound.WpLaws.{FmC, fmOf, WpFn-mono}
 use denote.RattleType.{owns}
 use denote.Laws.{Is, Makes}
@@ -37,7 +37,8 @@ use denote.Triple.Walked.{says, needs, Stays, stay-none, stay-none-slice, walkOf
 use denote.Exit.{yes}
 use lib.ListN.{getD}
 use Rattle.model.specs.Records.{freshProposer}
-use Rattle.machine.proofs.Frees.{full, dies-apart, frees-all}
+use Rattle.machine.proofs.Frees.{full, allocates, frees-all}
+use Rattle.machine.proofs.Moves.{and-local, land-in}
 use Rattle.machine.proofs.Relending.{listAt}
 use Rattle.machine.proofs.CallsByValue.{calls-value}
 use Rattle.machine.proofs.CallsWithSlices.{passed, handed, calls}
@@ -145,23 +146,23 @@ module _ {M : Type 1} (𝓤 : URA M) (H : Heap 𝓤) (A : Atoms 𝓤) (W : Given
           ∷ ‵ (froom word l₃ 0) ∷ ‵ (fat fullShare PrId′.mir l₂ 0 (valPrId i)) ∷ ‵ (fat fullShare (sliceTy (tyRef (named 0) imm (pointee (Pr.the-row .written)))) l₁ 0 s₀) ∷ ‵ (froom Pr′.mir l₀ 0) ∷ Dies ∷ []) (runs C Λ En pieces.t-1 (atRet En Post))
       part-1 =
           calls-value ! fm (proposer-index.signature .params) usize (proposer-index.ended .kept) (proposer-index.clauses 𝓤 H A mem run) known-proposer-index (valsPrId, tt) (makesPrId, tt) (vint w64) (uint-tells w64)
-          (i, tt) (gi, tt) tt (id⊢ 𝓤 (emp 𝓤)) (i .0) (λ r e′. id⊢ 𝓤 (fact 𝓤 (r ≡ (i .0)))) (and-then ! (reads ! (from ! (stop !)) (look ! 4 refl)) (no-more !)) (λ g3.
-          land ! (from ! (stop !)) (init ! 2 refl (tt, record { fits = g3 .1 })) $
+          (i, tt) (gi, tt) tt (id⊢ 𝓤 (emp 𝓤)) (i .0) (λ r e′. id⊢ 𝓤 (fact 𝓤 (r ≡ (i .0)))) (and-local ! 4 refl (no-more !)) (λ g3.
+          land-in ! 2 refl (tt, record { fits = g3 .1 }) $
           calls ! fm (handed Pr.the-row κ₀ q₀ γ₀ b₀ o₀ t
           ∷ passed usize (uint-vals w64) (uint-makes 𝓤 H A W w64) (i .0) g3 ∷ [])
-          Pr.the-row (proposer-by.clauses 𝓤 H A mem run) known-proposer-by valPr (LL.tells Pr.the-type Pr′.the-laws) x₀ (λ w. tt) (λ w. factI 𝓤 _ (emp 𝓤) in-i) (λ w v ws. id⊢ 𝓤 _) (λ w. (and-then ! (reads ! (from ! (stop !)) (look ! 4 refl)) (and-then ! (reads ! (from ! (stop !)) (look ! 2 refl)) (no-more !)))) (λ g0 e0.
-          land ! (from ! (stop !)) (init ! 5 refl (typedPr x₀ g0)) $
+          Pr.the-row (proposer-by.clauses 𝓤 H A mem run) known-proposer-by valPr (LL.tells Pr.the-type Pr′.the-laws) x₀ (λ w. tt) (λ w. factI 𝓤 _ (emp 𝓤) in-i) (λ w v ws. id⊢ 𝓤 _) (λ w. (and-local ! 4 refl (and-local ! 2 refl (no-more !)))) (λ g0 e0.
+          land-in ! 5 refl (typedPr x₀ g0) $
           returns ! (look ! 5 refl) $ frees-all ! 2 (full _ _ _ ∷ full _ _ _ ∷ full _ _ _ ∷ full _ _ _ ∷ []) refl refl $
           keep ! (0 ∷ 1 ∷ []) $ by ! (exits g0)))
 
     walk : ent 𝓤 (onEntry 𝓤 H A this.signature (κ₀, tt) (q₀, tt) (listAt Pr.the-row b₀ o₀ t γ₀, (i, tt)) at) (WpFn 𝓤 H C Λ code.function (s₀ ∷ valPrId i ∷ []) Post)
     walk =
         qed W ((‵ (flft κ₀ q₀) ⊛ ‵ ftrue) ∷ ‵ (owns (ShrSlice (named 0) κ₀ Pr.the-row ∷ PrId.the-row ∷ []) (listAt Pr.the-row b₀ o₀ t γ₀, (i, tt)) at) ∷ []) ∵ enter ! C Λ code.function (s₀ ∷ valPrId i ∷ []) _ $
-        alloc1 ! (λ l₀. alloc1 ! (λ l₁. alloc1 ! (λ l₂. alloc1 ! (λ l₃. alloc0 ! $ dies-apart ! 4 $ params1 ! $
+        allocates ! (λ l₀ l₁ l₂ l₃. params1 ! $
         pass1 ! (init ! 3 refl (tt, (tt, (record { fits = room₀ .0 }, tt)))) $ pass1 ! (init ! 2 refl (typedPrId i gi)) $ pass0 ! $
         move ! (6 ∷ []) $ fsplit ! $
         move ! (7 ∷ []) $ split ! $
-        keep ! (2 ∷ 0 ∷ 5 ∷ 6 ∷ 7 ∷ 8 ∷ 4 ∷ []) $ part-1 l₀ l₁ l₂ l₃))))
+        keep ! (2 ∷ 0 ∷ 5 ∷ 6 ∷ 7 ∷ 8 ∷ 4 ∷ []) $ part-1 l₀ l₁ l₂ l₃)
 
 module _ {M : Type 1} (𝓤 : URA M) (H : Heap 𝓤) (A : Atoms 𝓤) (W : Given 𝓤 H A) (mem : Memory → SProp 𝓤) (run : Routine → Fun 𝓤) (𝓣 : Tables 𝓤 H) (known-proposer-index : Triple 𝓤 (𝓣 .C #proposer-index) (Of-proposer-index 𝓤 H A mem run)) (known-proposer-by : Triple 𝓤 (𝓣 .C #proposer-by) (Of-proposer-by 𝓤 H A mem run)) where
   f-walks : Walks 𝓤 H A this.ended stayed (WpFn 𝓤 H (𝓣 .C) (𝓣 .Λ) code.function) (this.clauses 𝓤 H A mem run)

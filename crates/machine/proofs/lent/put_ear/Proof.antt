@@ -20,7 +20,7 @@ use contract.Monad.{Fun, fact}
 use contract.Running.{givenOf, tables, tablesOf}
 use types.Kit.{Given, Item, ‵, _⊛_, ⋆, runs, atRet, Sq, _$_, _∵_, !, qed, by, move, keep, drop, rewrite, split, join, fsplit, fjoin, feqI, suffices, frame, done}
 use types.Part.{whole, sub, look-in, store-in}
-use types.Run.{look, init, store, stop, hop, fld, from, load as reads, lit, unit-lit, addr, of-opd, bin, and-then, no-more, assigns, land, returns, enter, alloc1, alloc0, params1, pass1, pass0}
+use types.Run.{look, init, store, stop, hop, fld, from, load as reads, lit, unit-lit, addr, of-opd, bin, no-more, assigns, returns, enter, params1, pass1, pass0}
 use sound.WpLaws.{FmC, fmOf, WpFn-mono}
 use denote.RattleType.{owns}
 use denote.Laws.{Is, Makes, shows}
@@ -44,7 +44,8 @@ use lib.ListN.{getD}
 use Rattle.choice.specs.Choice.{if_then_else_}
 use Rattle.model.specs.Records.{freshLearner, unheard}
 use Rattle.machine.specs.Roles.{placeOf, earOf, putEar}
-use Rattle.machine.proofs.Frees.{full, dies-apart, frees-all}
+use Rattle.machine.proofs.Frees.{full, allocates, frees-all}
+use Rattle.machine.proofs.Moves.{and-local, land-in}
 use Rattle.machine.proofs.Relending.{Slice, listAt}
 use Rattle.machine.proofs.CallsByValue.{calls-value}
 use Rattle.machine.proofs.WalkedLoops.{fits-place}
@@ -213,8 +214,8 @@ module _ {M : Type 1} (𝓤 : URA M) (H : Heap 𝓤) (A : Atoms 𝓤) (W : Given
           ∷ ‵ (froom tyPtr l₁₈ 0) ∷ ‵ (froom tyPtr l₁₇ 0) ∷ ‵ (froom tyPtr l₁₆ 0) ∷ ‵ (froom tyPtr l₁₅ 0) ∷ ‵ (froom tyPtr l₁₄ 0) ∷ ‵ (froom He′.mir l₁₃ 0) ∷ ‵ (froom tyPtr l₁₂ 0) ∷ ‵ (froom tyPtr l₁₁ 0) ∷ ‵ (froom word l₁₀ 0) ∷ ‵ (froom tyPtr l₉ 0) ∷ ‵ (froom word l₈ 0) ∷ ‵ (froom He′.mir l₇ 0) ∷ ‵ (froom He′.mir l₆ 0) ∷ ‵ (froom word l₅ 0) ∷ ‵ (fat fullShare Ea′.mir l₄ 0 (valEa x)) ∷ ‵ (fat fullShare Pi′.mir l₃ 0 (valPi p)) ∷ ‵ (fat fullShare word l₂ 0 (vint w64 i)) ∷ ‵ (fat fullShare (sliceTy (tyRef (named 0) mut (pointee (Le.the-row .written)))) l₁ 0 s₀) ∷ ‵ (froom tyUnit l₀ 0) ∷ Dies ∷ []) (runs C Λ En pieces.t-1 (atRet En Post))
       part-1 =
           calls-value ! fm (place-of.signature .params) usize (place-of.ended .kept) (place-of.clauses 𝓤 H A mem run) known-place-of (valsPi, tt) (makesPi, tt) (vint w64) (uint-tells w64)
-          (p, tt) (gp, tt) tt (id⊢ 𝓤 (emp 𝓤)) pl (λ r e′. id⊢ 𝓤 (fact 𝓤 (r ≡ pl))) (and-then ! (reads ! (from ! (stop !)) (look ! 18 refl)) (no-more !)) (λ g5.
-          land ! (from ! (stop !)) (init ! 15 refl (tt, record { fits = g5 .1 })) $
+          (p, tt) (gp, tt) tt (id⊢ 𝓤 (emp 𝓤)) pl (λ r e′. id⊢ 𝓤 (fact 𝓤 (r ≡ pl))) (and-local ! 18 refl (no-more !)) (λ g5.
+          land-in ! 15 refl (tt, record { fits = g5 .1 }) $
           fsplit ! $ move ! (1 ∷ []) $ fsplit ! $ move ! (0 ∷ 1 ∷ 3 ∷ []) $ opens-slice ! tt Le.the-row t b₀ o₀ $
           elem-out ! Le.the-row (Is Le.the-row) (shows 𝓤 H A Le.the-row) valsLe (LL.tells Le.the-type Le′.the-laws) fullShare t i freshLearner b₀ o₀ in-i (λ g.
           assigns ! (bin ! (reads ! (from ! (stop !)) (look ! 23 refl)) (lit ! tt) (record { fits = fits-place 208 i (length t) in-i (room₀ .1) })) (from ! (stop !)) (init ! 17 refl (tt, record { fits = fits-place 208 i (length t) in-i (room₀ .1) })) $
@@ -229,8 +230,8 @@ module _ {M : Type 1} (𝓤 : URA M) (H : Heap 𝓤) (A : Atoms 𝓤) (W : Given
           rewrite ! 12 (λ (v : Val). ‵ (fat fullShare He′.mir l₁₃ 0 v)) (value-at (elem .heard) pl) refl $
           assigns ! (of-opd ! (reads ! (from ! (stop !)) (look ! 12 refl))) (from ! (stop !)) (init ! 19 refl (typedHe h₀ (one-heard elem g pl (place-below (p .0))))) $
           calls-value ! fm (held-in.signature .params) He.the-row (held-in.ended .kept) (held-in.clauses 𝓤 H A mem run) known-held-in (valsPi, (valsEa, (valsHe, tt))) (makesPi, (makesEa, (makesHe, tt))) valHe (LL.tells He.the-type He′.the-laws)
-          (p, (x, (h₀, tt))) (gp, (gx, ((one-heard elem g pl (place-below (p .0))), tt))) tt (id⊢ 𝓤 (emp 𝓤)) h₁ (λ r e′. id⊢ 𝓤 (fact 𝓤 (r ≡ h₁))) (and-then ! (reads ! (from ! (stop !)) (look ! 23 refl)) (and-then ! (reads ! (from ! (stop !)) (look ! 22 refl)) (and-then ! (reads ! (from ! (stop !)) (look ! 20 refl)) (no-more !)))) (λ g7.
-          land ! (from ! (stop !)) (init ! 18 refl (typedHe h₁ g7)) $
+          (p, (x, (h₀, tt))) (gp, (gx, ((one-heard elem g pl (place-below (p .0))), tt))) tt (id⊢ 𝓤 (emp 𝓤)) h₁ (λ r e′. id⊢ 𝓤 (fact 𝓤 (r ≡ h₁))) (and-local ! 23 refl (and-local ! 22 refl (and-local ! 20 refl (no-more !)))) (λ g7.
+          land-in ! 18 refl (typedHe h₁ g7) $
           assigns ! (bin ! (reads ! (from ! (stop !)) (look ! 23 refl)) (lit ! tt) (record { fits = fits-place 208 i (length t) in-i (room₀ .1) })) (from ! (stop !)) (store ! 17 refl (tt, record { fits = fits-place 208 i (length t) in-i (room₀ .1) })) $
           assigns ! (bin ! (reads ! (from ! (fld ! refl (stop !))) (look-in ! 24 (sub ! 0 refl (whole !)))) (reads ! (from ! (stop !)) (look ! 17 refl)) tt) (from ! (stop !)) (init ! 11 refl (tt, tt)) $
           rewrite ! 11 (λ (y : ℕ). ‵ (fat fullShare tyPtr l₁₄ 0 (vptr b₀ y))) (sym (place-is 208 o₀ i)) refl $
@@ -261,11 +262,11 @@ module _ {M : Type 1} (𝓤 : URA M) (H : Heap 𝓤) (A : Atoms 𝓤) (W : Given
     walk : ent 𝓤 (onEntry 𝓤 H A this.signature (κ₀, tt) (q₀, tt) (listAt Le.the-row b₀ o₀ t γ₀, (i, (p, (x, tt)))) at) (WpFn 𝓤 H C Λ code.function (s₀ ∷ vint w64 i ∷ valPi p ∷ valEa x ∷ []) Post)
     walk =
         qed W ((‵ (flft κ₀ q₀) ⊛ ‵ ftrue) ∷ ‵ (owns (MutSlice (named 0) κ₀ Le.the-row ∷ usize ∷ Pi.the-row ∷ Ea.the-row ∷ []) (listAt Le.the-row b₀ o₀ t γ₀, (i, (p, (x, tt)))) at) ∷ []) ∵ enter ! C Λ code.function (s₀ ∷ vint w64 i ∷ valPi p ∷ valEa x ∷ []) _ $
-        alloc1 ! (λ l₀. alloc1 ! (λ l₁. alloc1 ! (λ l₂. alloc1 ! (λ l₃. alloc1 ! (λ l₄. alloc1 ! (λ l₅. alloc1 ! (λ l₆. alloc1 ! (λ l₇. alloc1 ! (λ l₈. alloc1 ! (λ l₉. alloc1 ! (λ l₁₀. alloc1 ! (λ l₁₁. alloc1 ! (λ l₁₂. alloc1 ! (λ l₁₃. alloc1 ! (λ l₁₄. alloc1 ! (λ l₁₅. alloc1 ! (λ l₁₆. alloc1 ! (λ l₁₇. alloc1 ! (λ l₁₈. alloc0 ! $ dies-apart ! 19 $ params1 ! $
+        allocates ! (λ l₀ l₁ l₂ l₃ l₄ l₅ l₆ l₇ l₈ l₉ l₁₀ l₁₁ l₁₂ l₁₃ l₁₄ l₁₅ l₁₆ l₁₇ l₁₈. params1 ! $
         pass1 ! (init ! 18 refl (tt, (tt, (record { fits = room₀ .0 }, tt)))) $ pass1 ! (init ! 17 refl (tt, record { fits = gi .1 })) $ pass1 ! (init ! 16 refl (typedPi p gp)) $ pass1 ! (init ! 15 refl (typedEa x gx)) $ pass0 ! $
         move ! (21 ∷ []) $ fsplit ! $
         move ! (22 ∷ []) $ split ! $
-        keep ! (2 ∷ 0 ∷ 5 ∷ 6 ∷ 7 ∷ 8 ∷ 9 ∷ 10 ∷ 11 ∷ 12 ∷ 13 ∷ 14 ∷ 15 ∷ 16 ∷ 17 ∷ 18 ∷ 19 ∷ 20 ∷ 21 ∷ 22 ∷ 23 ∷ 4 ∷ []) $ part-1 l₀ l₁ l₂ l₃ l₄ l₅ l₆ l₇ l₈ l₉ l₁₀ l₁₁ l₁₂ l₁₃ l₁₄ l₁₅ l₁₆ l₁₇ l₁₈)))))))))))))))))))
+        keep ! (2 ∷ 0 ∷ 5 ∷ 6 ∷ 7 ∷ 8 ∷ 9 ∷ 10 ∷ 11 ∷ 12 ∷ 13 ∷ 14 ∷ 15 ∷ 16 ∷ 17 ∷ 18 ∷ 19 ∷ 20 ∷ 21 ∷ 22 ∷ 23 ∷ 4 ∷ []) $ part-1 l₀ l₁ l₂ l₃ l₄ l₅ l₆ l₇ l₈ l₉ l₁₀ l₁₁ l₁₂ l₁₃ l₁₄ l₁₅ l₁₆ l₁₇ l₁₈)
 
 module _ {M : Type 1} (𝓤 : URA M) (H : Heap 𝓤) (A : Atoms 𝓤) (W : Given 𝓤 H A) (mem : Memory → SProp 𝓤) (run : Routine → Fun 𝓤) (𝓣 : Tables 𝓤 H) (known-place-of : Triple 𝓤 (𝓣 .C #place-of) (Of-place-of 𝓤 H A mem run)) (known-held-in : Triple 𝓤 (𝓣 .C #held-in) (Of-held-in 𝓤 H A mem run)) where
   f-walks : Walks 𝓤 H A this.ended stayed (WpFn 𝓤 H (𝓣 .C) (𝓣 .Λ) code.function) (this.clauses 𝓤 H A mem run)

@@ -19,8 +19,7 @@ use ghost.Atoms.{Atoms}
 use contract.Monad.{Fun, factI, fact-mono}
 use contract.Running.{givenOf, tables, tablesOf}
 use types.Kit.{Given, Item, ‵, _⊛_, ⋆, runs, anyQ, atRet, Sq, _$_, _∵_, !, qed, by, move, keep, split, join, fsplit, fjoin, feqI, suffices, frame, done}
-use types.Part.{agg, whole, sub, look-in}
-use types.Run.{look, init, store, forget, stop, hop, fld, from, load as reads, lit, unit-lit, addr, of-opd, bin, and-then, no-more, assigns, assigns-last, land, first, blocks, returns, enter, alloc1, alloc0, params1, pass1, pass0, exec, Below, again, loops}
+use types.Run.{look, init, store, forget, stop, from, load as reads, lit, unit-lit, of-opd, bin, no-more, assigns, assigns-last, first, blocks, returns, enter, params1, pass1, pass0, exec, Below, again, loops}
 use sound.WpLaws.{FmC, fmOf, WpFn-mono}
 use denote.RattleType.{owns}
 use denote.Laws.{Is, Makes}
@@ -41,7 +40,8 @@ use denote.Exit.{yes}
 use Rattle.machine.specs.Stepping.{Left, stepOf, Fits}
 use Rattle.machine.specs.Running.{noted, Ran, onward, ranTo, driven, Drives}
 use Rattle.machine.specs.Calls.{eventOf}
-use Rattle.machine.proofs.Frees.{full, bare, dies-apart, frees-all}
+use Rattle.machine.proofs.Frees.{full, bare, allocates, frees-all}
+use Rattle.machine.proofs.Moves.{and-local, land-in, lends-again}
 use Rattle.machine.proofs.Relending.{Slice, listAt}
 use Rattle.machine.proofs.CallsWithSlices.{passed, lent, handed, calls}
 use Rattle.machine.proofs.LoopsOverSteps.{at-end, still-fit, event-there, answer-there, ran-none, ran-next}
@@ -238,16 +238,12 @@ module _ {M : Type 1} (𝓤 : URA M) (H : Heap 𝓤) (A : Atoms 𝓤) (W : Given
           move ! (8 ∷ 9 ∷ []) $
           calls ! fm (handed u64 κ₄ q₄ γ₄ b₄ o₄ events
           ∷ passed usize (uint-vals w64) (uint-makes 𝓤 H A W w64) k (refl, gk on) ∷ [])
-          Ev.the-row (event-at.clauses 𝓤 H A mem run) known-event-at valEv (LL.tells Ev.the-type Ev′.the-laws) e (λ w. tt) (λ w. factI 𝓤 _ (emp 𝓤) (event-there k n n₄ (low on) (fitting on .1 .0))) (λ w v ws. id⊢ 𝓤 _) (λ w. (and-then ! (reads ! (from ! (stop !)) (look ! 29 refl)) (and-then ! (reads ! (from ! (stop !)) (look ! 26 refl)) (no-more !)))) (λ g10 e10.
-          land ! (from ! (stop !)) (init ! 25 refl (typedEv e g10)) $
-          assigns ! (addr ! (from ! (fld ! refl (hop ! (look-in ! 33 (sub ! 0 refl (whole !))) (stop !))))) (from ! (stop !)) (init ! 22 refl (tt, tt)) $
-          assigns ! (agg ! (and-then ! (reads ! (from ! (stop !)) (look ! 22 refl)) (and-then ! (reads ! (from ! (fld ! refl (stop !))) (look-in ! 33 (sub ! 1 refl (whole !)))) (no-more !)))) (from ! (stop !)) (init ! 21 refl (tt, (tt, (record { fits = room₀ .0 }, tt)))) $
-          assigns ! (addr ! (from ! (fld ! refl (hop ! (look-in ! 32 (sub ! 0 refl (whole !))) (stop !))))) (from ! (stop !)) (init ! 20 refl (tt, tt)) $
-          assigns ! (agg ! (and-then ! (reads ! (from ! (stop !)) (look ! 20 refl)) (and-then ! (reads ! (from ! (fld ! refl (stop !))) (look-in ! 32 (sub ! 1 refl (whole !)))) (no-more !)))) (from ! (stop !)) (init ! 19 refl (tt, (tt, (record { fits = room₁ .0 }, tt)))) $
-          assigns ! (addr ! (from ! (fld ! refl (hop ! (look-in ! 31 (sub ! 0 refl (whole !))) (stop !))))) (from ! (stop !)) (init ! 18 refl (tt, tt)) $
-          assigns ! (agg ! (and-then ! (reads ! (from ! (stop !)) (look ! 18 refl)) (and-then ! (reads ! (from ! (fld ! refl (stop !))) (look-in ! 31 (sub ! 1 refl (whole !)))) (no-more !)))) (from ! (stop !)) (init ! 17 refl (tt, (tt, (record { fits = room₂ .0 }, tt)))) $
-          assigns ! (addr ! (from ! (fld ! refl (hop ! (look-in ! 30 (sub ! 0 refl (whole !))) (stop !))))) (from ! (stop !)) (init ! 16 refl (tt, tt)) $
-          assigns ! (agg ! (and-then ! (reads ! (from ! (stop !)) (look ! 16 refl)) (and-then ! (reads ! (from ! (fld ! refl (stop !))) (look-in ! 30 (sub ! 1 refl (whole !)))) (no-more !)))) (from ! (stop !)) (init ! 15 refl (tt, (tt, (record { fits = room₃ .0 }, tt)))) $
+          Ev.the-row (event-at.clauses 𝓤 H A mem run) known-event-at valEv (LL.tells Ev.the-type Ev′.the-laws) e (λ w. tt) (λ w. factI 𝓤 _ (emp 𝓤) (event-there k n n₄ (low on) (fitting on .1 .0))) (λ w v ws. id⊢ 𝓤 _) (λ w. (and-local ! 29 refl (and-local ! 26 refl (no-more !)))) (λ g10 e10.
+          land-in ! 25 refl (typedEv e g10) $
+          lends-again ! 33 22 21 refl refl refl refl (tt, tt) refl refl (tt, (tt, (record { fits = room₀ .0 }, tt))) refl $
+          lends-again ! 32 20 19 refl refl refl refl (tt, tt) refl refl (tt, (tt, (record { fits = room₁ .0 }, tt))) refl $
+          lends-again ! 31 18 17 refl refl refl refl (tt, tt) refl refl (tt, (tt, (record { fits = room₂ .0 }, tt))) refl $
+          lends-again ! 30 16 15 refl refl refl refl (tt, tt) refl refl (tt, (tt, (record { fits = room₃ .0 }, tt))) refl $
           move ! (2 ∷ 3 ∷ 4 ∷ 5 ∷ 6 ∷ 7 ∷ 8 ∷ 9 ∷ []) $
           calls ! fm (passed Sz.the-row valsSz makesSz z gz
           ∷ lent Pr.the-row κ₀ q₀ γ₀ b₀ o₀ n₀ (r .proposers) (done′ .proposers) (long .0) room₀
@@ -255,16 +251,15 @@ module _ {M : Type 1} (𝓤 : URA M) (H : Heap 𝓤) (A : Atoms 𝓤) (W : Given
           ∷ lent Le.the-row κ₂ q₂ γ₂ b₂ o₂ n₂ (r .learners) (done′ .learners) (long .1 .1 .0) room₂
           ∷ lent Ms.the-row κ₃ q₃ γ₃ b₃ o₃ n₃ (r .slots) (done′ .slots) (long .1 .1 .1 .0) room₃
           ∷ passed Ev.the-row valsEv makesEv e g10 ∷ [])
-          An.the-row (step.clauses 𝓤 H A mem run) known-step valAn (EL.tells An.the-type An′.the-laws) (done′ .answer) (λ w. tt) (λ w. factI 𝓤 _ (emp 𝓤) (still on)) (λ w v ws. id⊢ 𝓤 _) (λ w. (and-then ! (reads ! (from ! (stop !)) (look ! 28 refl)) (and-then ! (reads ! (from ! (stop !)) (look ! 15 refl)) (and-then ! (reads ! (from ! (stop !)) (look ! 13 refl)) (and-then ! (reads ! (from ! (stop !)) (look ! 11 refl)) (and-then ! (reads ! (from ! (stop !)) (look ! 9 refl)) (and-then ! (reads ! (from ! (stop !)) (look ! 19 refl)) (no-more !)))))))) (λ g11 e11.
-          land ! (from ! (stop !)) (init ! 24 refl (typedAn (done′ .answer) g11)) $
-          assigns ! (addr ! (from ! (fld ! refl (hop ! (look-in ! 28 (sub ! 0 refl (whole !))) (stop !))))) (from ! (stop !)) (init ! 13 refl (tt, tt)) $
-          assigns ! (agg ! (and-then ! (reads ! (from ! (stop !)) (look ! 13 refl)) (and-then ! (reads ! (from ! (fld ! refl (stop !))) (look-in ! 28 (sub ! 1 refl (whole !)))) (no-more !)))) (from ! (stop !)) (init ! 12 refl (tt, (tt, (record { fits = room₅ .0 }, tt)))) $
+          An.the-row (step.clauses 𝓤 H A mem run) known-step valAn (EL.tells An.the-type An′.the-laws) (done′ .answer) (λ w. tt) (λ w. factI 𝓤 _ (emp 𝓤) (still on)) (λ w v ws. id⊢ 𝓤 _) (λ w. (and-local ! 28 refl (and-local ! 15 refl (and-local ! 13 refl (and-local ! 11 refl (and-local ! 9 refl (and-local ! 19 refl (no-more !)))))))) (λ g11 e11.
+          land-in ! 24 refl (typedAn (done′ .answer) g11) $
+          lends-again ! 28 13 12 refl refl refl refl (tt, tt) refl refl (tt, (tt, (record { fits = room₅ .0 }, tt))) refl $
           move ! (10 ∷ 11 ∷ []) $
           calls ! fm (lent u64 κ₅ q₅ γ₅ b₅ o₅ n₅ (r .log) log′ (long .1 .1 .1 .1) room₅
           ∷ passed usize (uint-vals w64) (uint-makes 𝓤 H A W w64) k (refl, gk on)
           ∷ passed An.the-row valsAn makesAn (done′ .answer) g11 ∷ [])
-          Nothing (note.clauses 𝓤 H A mem run) known-note (λ _. vunit) nothing-tells tt (λ w. tt) (λ w. factI 𝓤 _ (emp 𝓤) (answer-there k n n₅ (length (r .log)) (low on) (fitting on .1 .1) (long .1 .1 .1 .1))) (λ w v ws. fact-mono 𝓤 ((ws .0 ≡ log′)) ((v ≡ tt) × ((ws .0 ≡ log′))) (λ e′. (refl, e′))) (λ w. (and-then ! (reads ! (from ! (stop !)) (look ! 12 refl)) (and-then ! (reads ! (from ! (stop !)) (look ! 26 refl)) (and-then ! (reads ! (from ! (stop !)) (look ! 24 refl)) (no-more !))))) (λ _ e21.
-          land ! (from ! (stop !)) (init ! 14 refl (tt, tt)) $
+          Nothing (note.clauses 𝓤 H A mem run) known-note (λ _. vunit) nothing-tells tt (λ w. tt) (λ w. factI 𝓤 _ (emp 𝓤) (answer-there k n n₅ (length (r .log)) (low on) (fitting on .1 .1) (long .1 .1 .1 .1))) (λ w v ws. fact-mono 𝓤 ((ws .0 ≡ log′)) ((v ≡ tt) × ((ws .0 ≡ log′))) (λ e′. (refl, e′))) (λ w. (and-local ! 12 refl (and-local ! 26 refl (and-local ! 24 refl (no-more !))))) (λ _ e21.
+          land-in ! 14 refl (tt, tt) $
           assigns-last ! (bin ! (reads ! (from ! (stop !)) (look ! 26 refl)) (lit ! tt) (record { fits = fits-next k n (low on) (gn .1) })) (from ! (stop !)) (store ! 26 refl (tt, record { fits = fits-next k n (low on) (gn .1) })) $
           forget ! 12 refl $ forget ! 13 refl $ forget ! 14 refl $ forget ! 15 refl $ forget ! 16 refl $ forget ! 17 refl $ forget ! 18 refl $ forget ! 19 refl $ forget ! 20 refl $ forget ! 21 refl $ forget ! 22 refl $ forget ! 23 refl $ forget ! 24 refl $ forget ! 25 refl $
           move ! (2 ∷ 3 ∷ 4 ∷ 5 ∷ 6 ∷ 7 ∷ 8 ∷ 9 ∷ 10 ∷ 11 ∷ 0 ∷ 1 ∷ []) $
@@ -317,12 +312,12 @@ module _ {M : Type 1} (𝓤 : URA M) (H : Heap 𝓤) (A : Atoms 𝓤) (W : Given
     walk : ent 𝓤 (onEntry 𝓤 H A this.signature (κ₀, (κ₁, (κ₂, (κ₃, (κ₄, (κ₅, tt)))))) (q₀, (q₁, (q₂, (q₃, (q₄, (q₅, tt)))))) (z, (listAt Pr.the-row b₀ o₀ ps γ₀, (listAt Ac.the-row b₁ o₁ acs γ₁, (listAt Le.the-row b₂ o₂ ls γ₂, (listAt Ms.the-row b₃ o₃ t γ₃, (listAt u64 b₄ o₄ events γ₄, (listAt u64 b₅ o₅ log γ₅, (n, tt)))))))) at) (WpFn 𝓤 H C Λ code.function (valSz z ∷ s₀ ∷ s₁ ∷ s₂ ∷ s₃ ∷ s₄ ∷ s₅ ∷ vint w64 n ∷ []) Post)
     walk =
         qed W ((‵ (flft κ₀ q₀) ⊛ ‵ (flft κ₁ q₁) ⊛ ‵ (flft κ₂ q₂) ⊛ ‵ (flft κ₃ q₃) ⊛ ‵ (flft κ₄ q₄) ⊛ ‵ (flft κ₅ q₅) ⊛ ‵ ftrue) ∷ ‵ (owns (Sz.the-row ∷ MutSlice (named 0) κ₀ Pr.the-row ∷ MutSlice (named 1) κ₁ Ac.the-row ∷ MutSlice (named 2) κ₂ Le.the-row ∷ MutSlice (named 3) κ₃ Ms.the-row ∷ ShrSlice (named 4) κ₄ u64 ∷ MutSlice (named 5) κ₅ u64 ∷ usize ∷ []) (z, (listAt Pr.the-row b₀ o₀ ps γ₀, (listAt Ac.the-row b₁ o₁ acs γ₁, (listAt Le.the-row b₂ o₂ ls γ₂, (listAt Ms.the-row b₃ o₃ t γ₃, (listAt u64 b₄ o₄ events γ₄, (listAt u64 b₅ o₅ log γ₅, (n, tt)))))))) at) ∷ []) ∵ enter ! C Λ code.function (valSz z ∷ s₀ ∷ s₁ ∷ s₂ ∷ s₃ ∷ s₄ ∷ s₅ ∷ vint w64 n ∷ []) _ $
-        alloc1 ! (λ l₀. alloc1 ! (λ l₁. alloc1 ! (λ l₂. alloc1 ! (λ l₃. alloc1 ! (λ l₄. alloc1 ! (λ l₅. alloc1 ! (λ l₆. alloc1 ! (λ l₇. alloc1 ! (λ l₈. alloc1 ! (λ l₉. alloc1 ! (λ l₁₀. alloc1 ! (λ l₁₁. alloc1 ! (λ l₁₂. alloc1 ! (λ l₁₃. alloc1 ! (λ l₁₄. alloc1 ! (λ l₁₅. alloc1 ! (λ l₁₆. alloc1 ! (λ l₁₇. alloc1 ! (λ l₁₈. alloc1 ! (λ l₁₉. alloc1 ! (λ l₂₀. alloc1 ! (λ l₂₁. alloc1 ! (λ l₂₂. alloc1 ! (λ l₂₃. alloc0 ! $ dies-apart ! 24 $ params1 ! $
+        allocates ! (λ l₀ l₁ l₂ l₃ l₄ l₅ l₆ l₇ l₈ l₉ l₁₀ l₁₁ l₁₂ l₁₃ l₁₄ l₁₅ l₁₆ l₁₇ l₁₈ l₁₉ l₂₀ l₂₁ l₂₂ l₂₃. params1 ! $
         pass1 ! (init ! 23 refl (typedSz z gz)) $ pass1 ! (init ! 22 refl (tt, (tt, (record { fits = room₀ .0 }, tt)))) $ pass1 ! (init ! 21 refl (tt, (tt, (record { fits = room₁ .0 }, tt)))) $ pass1 ! (init ! 20 refl (tt, (tt, (record { fits = room₂ .0 }, tt)))) $ pass1 ! (init ! 19 refl (tt, (tt, (record { fits = room₃ .0 }, tt)))) $ pass1 ! (init ! 18 refl (tt, (tt, (record { fits = room₄ .0 }, tt)))) $ pass1 ! (init ! 17 refl (tt, (tt, (record { fits = room₅ .0 }, tt)))) $ pass1 ! (init ! 16 refl (tt, record { fits = gn .1 })) $ pass0 ! $
         move ! (26 ∷ []) $ fsplit ! $ move ! (1 ∷ []) $ fsplit ! $ move ! (1 ∷ []) $ fsplit ! $ move ! (1 ∷ []) $ fsplit ! $ move ! (1 ∷ []) $ fsplit ! $ move ! (1 ∷ []) $ fsplit ! $ move ! (1 ∷ []) $ fsplit ! $
         move ! (33 ∷ []) $ split ! $ move ! (1 ∷ []) $ split ! $ move ! (1 ∷ []) $ split ! $ move ! (1 ∷ []) $ split ! $ move ! (1 ∷ []) $ split ! $ move ! (1 ∷ []) $ split ! $
         keep ! (13 ∷ 6 ∷ 12 ∷ 5 ∷ 11 ∷ 4 ∷ 10 ∷ 3 ∷ 9 ∷ 2 ∷ 7 ∷ 0 ∷ 16 ∷ 17 ∷ 18 ∷ 19 ∷ 20 ∷ 21 ∷ 22 ∷ 23 ∷ 24 ∷ 25 ∷ 26 ∷ 27 ∷ 28 ∷ 29 ∷ 30 ∷ 31 ∷ 32 ∷ 33 ∷ 34 ∷ 35 ∷ 36 ∷ 37 ∷ 38 ∷ 39 ∷ 15 ∷ []) $ assigns ! (of-opd ! (lit ! tt)) (from ! (stop !)) (init ! 26 refl (tt, record { fits = lit< tt })) $
-        looped l₀ l₁ l₂ l₃ l₄ l₅ l₆ l₇ l₈ l₉ l₁₀ l₁₁ l₁₂ l₁₃ l₁₄ l₁₅ l₁₆ l₁₇ l₁₈ l₁₉ l₂₀ l₂₁ l₂₂ l₂₃))))))))))))))))))))))))
+        looped l₀ l₁ l₂ l₃ l₄ l₅ l₆ l₇ l₈ l₉ l₁₀ l₁₁ l₁₂ l₁₃ l₁₄ l₁₅ l₁₆ l₁₇ l₁₈ l₁₉ l₂₀ l₂₁ l₂₂ l₂₃)
 
 module _ {M : Type 1} (𝓤 : URA M) (H : Heap 𝓤) (A : Atoms 𝓤) (W : Given 𝓤 H A) (mem : Memory → SProp 𝓤) (run : Routine → Fun 𝓤) (𝓣 : Tables 𝓤 H) (known-event-at : Triple 𝓤 (𝓣 .C #event-at) (Of-event-at 𝓤 H A mem run)) (known-step : Triple 𝓤 (𝓣 .C #step) (Of-step 𝓤 H A mem run)) (known-note : Triple 𝓤 (𝓣 .C #note) (Of-note 𝓤 H A mem run)) where
   f-walks : Walks 𝓤 H A this.ended stayed (WpFn 𝓤 H (𝓣 .C) (𝓣 .Λ) code.function) (this.clauses 𝓤 H A mem run)

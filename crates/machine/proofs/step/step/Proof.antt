@@ -19,8 +19,7 @@ use ghost.Atoms.{Atoms}
 use contract.Monad.{Fun, fact, factI}
 use contract.Running.{givenOf, tables, tablesOf}
 use types.Kit.{Given, Item, ‵, _⊛_, ⋆, runs, atRet, Sq, _$_, _∵_, !, qed, by, move, keep, split, join, fsplit, fjoin, suffices, frame, done}
-use types.Part.{agg, whole, sub, look-in}
-use types.Run.{branches, skips, returns-within, look, init, forget, stop, hop, fld, from, load as reads, lit, addr, bin, and-then, no-more, assigns, land, first, returns, enter, alloc1, alloc0, params1, pass1, pass0, exec}
+use types.Run.{branches, skips, returns-within, look, init, forget, stop, from, load as reads, lit, bin, no-more, assigns, first, returns, enter, params1, pass1, pass0, exec}
 use sound.WpLaws.{FmC, fmOf, WpFn-mono}
 use denote.RattleType.{owns}
 use denote.Laws.{Is, Makes}
@@ -41,7 +40,8 @@ use denote.Exit.{yes}
 use Rattle.machine.specs.Stepping.{indexIn, theMessage, Left, stepOf, Fits}
 use Rattle.machine.specs.Roles.{stepAt}
 use Rattle.decisions.specs.Arms.{armOf}
-use Rattle.machine.proofs.Frees.{full, bare, dies-apart, frees-all}
+use Rattle.machine.proofs.Frees.{full, bare, allocates, frees-all}
+use Rattle.machine.proofs.Moves.{and-local, land-in, lends-again}
 use Rattle.machine.proofs.Relending.{Slice, listAt}
 use Rattle.machine.proofs.CallsByValue.{calls-value}
 use Rattle.machine.proofs.CallsWithSlices.{passed, lent, calls}
@@ -271,15 +271,14 @@ module _ {M : Type 1} (𝓤 : URA M) (H : Heap 𝓤) (A : Atoms 𝓤) (W : Given
       arm-5 : (g7 : Is usize k (uint-vals w64 k)) → (g8 : Is Ms.the-row m (valsMs m)) → (g9 : Is u8 n (uint-vals w8 n)) → (not-3 : Holds (not (eqb n 3))) → (not-4 : Holds (not (eqb n 4))) → (not-2 : Holds (not (eqb n 2))) → (not-1 : Holds (not (eqb n 1))) → Sq W (‵ (Slice Ms.the-row κ₃ γ₃ b₃ o₃ n₃ t) ∷ ‵ (flft κ₃ q₃) ∷ ‵ (Slice Pr.the-row κ₀ γ₀ b₀ o₀ n₀ ps) ∷ ‵ (flft κ₀ q₀) ∷ ‵ (Slice Ac.the-row κ₁ γ₁ b₁ o₁ n₁ acs) ∷ ‵ (flft κ₁ q₁) ∷ ‵ (Slice Le.the-row κ₂ γ₂ b₂ o₂ n₂ ls) ∷ ‵ (flft κ₂ q₂)
           ∷ ‵ (froom (sliceTy (tyRef erased mut (pointee (Ms.the-row .written)))) l₃₀ 0) ∷ ‵ (froom (tyRef erased mut (pointee (Ms.the-row .written))) l₂₉ 0) ∷ ‵ (froom (sliceTy (tyRef erased mut (pointee (Ms.the-row .written)))) l₂₈ 0) ∷ ‵ (froom (tyRef erased mut (pointee (Ms.the-row .written))) l₂₇ 0) ∷ ‵ (froom (sliceTy (tyRef erased mut (pointee (Pr.the-row .written)))) l₂₆ 0) ∷ ‵ (froom (tyRef erased mut (pointee (Pr.the-row .written))) l₂₅ 0) ∷ ‵ (froom (sliceTy (tyRef erased mut (pointee (Ms.the-row .written)))) l₂₄ 0) ∷ ‵ (froom (tyRef erased mut (pointee (Ms.the-row .written))) l₂₃ 0) ∷ ‵ (froom (sliceTy (tyRef erased mut (pointee (Ac.the-row .written)))) l₂₂ 0) ∷ ‵ (froom (tyRef erased mut (pointee (Ac.the-row .written))) l₂₁ 0) ∷ ‵ (froom (sliceTy (tyRef erased mut (pointee (Ms.the-row .written)))) l₂₀ 0) ∷ ‵ (froom (tyRef erased mut (pointee (Ms.the-row .written))) l₁₉ 0) ∷ ‵ (froom (sliceTy (tyRef erased mut (pointee (Pr.the-row .written)))) l₁₈ 0) ∷ ‵ (froom (tyRef erased mut (pointee (Pr.the-row .written))) l₁₇ 0) ∷ ‵ (froom (sliceTy (tyRef erased mut (pointee (Ms.the-row .written)))) l₁₆ 0) ∷ ‵ (froom (tyRef erased mut (pointee (Ms.the-row .written))) l₁₅ 0) ∷ ‵ (froom (sliceTy (tyRef erased mut (pointee (Le.the-row .written)))) l₁₄ 0) ∷ ‵ (froom (tyRef erased mut (pointee (Le.the-row .written))) l₁₃ 0) ∷ ‵ (froom tyBool l₁₂ 0) ∷ ‵ (froom (sliceTy (tyRef erased imm (pointee (Ms.the-row .written)))) l₁₁ 0) ∷ ‵ (froom (tyRef erased imm (pointee (Ms.the-row .written))) l₁₀ 0) ∷ ‵ (fat fullShare byte l₉ 0 (vint w8 n)) ∷ ‵ (fat fullShare Ms′.mir l₈ 0 (valMs m)) ∷ ‵ (fat fullShare word l₇ 0 (vint w64 k)) ∷ ‵ (fat fullShare Ev′.mir l₆ 0 (valEv e)) ∷ ‵ (fat fullShare (sliceTy (tyRef (named 3) mut (pointee (Ms.the-row .written)))) l₅ 0 s₃) ∷ ‵ (fat fullShare (sliceTy (tyRef (named 2) mut (pointee (Le.the-row .written)))) l₄ 0 s₂) ∷ ‵ (fat fullShare (sliceTy (tyRef (named 1) mut (pointee (Ac.the-row .written)))) l₃ 0 s₁) ∷ ‵ (fat fullShare (sliceTy (tyRef (named 0) mut (pointee (Pr.the-row .written)))) l₂ 0 s₀) ∷ ‵ (fat fullShare Sz′.mir l₁ 0 (valSz z)) ∷ ‵ (froom An′.mir l₀ 0) ∷ Dies ∷ []) (runs C Λ En pieces.t-14 (atRet En Post))
       arm-5 g7 g8 g9 not-3 not-4 not-2 not-1 =
-          assigns ! (addr ! (from ! (fld ! refl (hop ! (look-in ! 33 (sub ! 0 refl (whole !))) (stop !))))) (from ! (stop !)) (init ! 9 refl (tt, tt)) $
-          assigns ! (agg ! (and-then ! (reads ! (from ! (stop !)) (look ! 9 refl)) (and-then ! (reads ! (from ! (fld ! refl (stop !))) (look-in ! 33 (sub ! 1 refl (whole !)))) (no-more !)))) (from ! (stop !)) (init ! 8 refl (tt, (tt, (record { fits = room₃ .0 }, tt)))) $
+          lends-again ! 33 9 8 refl refl refl refl (tt, tt) refl refl (tt, (tt, (record { fits = room₃ .0 }, tt))) refl $
           calls ! fm (passed Sz.the-row valsSz makesSz z gz
           ∷ lent Ms.the-row κ₃ q₃ γ₃ b₃ o₃ n₃ t (byTable .slots) refl room₃
           ∷ passed Ev.the-row valsEv makesEv e ge
           ∷ passed usize (uint-vals w64) (uint-makes 𝓤 H A W w64) k g7
           ∷ passed Ms.the-row valsMs makesMs m g8 ∷ [])
-          An.the-row (step-table.clauses 𝓤 H A mem run) known-step-table valAn (EL.tells An.the-type An′.the-laws) (byTable .answer) (λ w. tt) (λ w. factI 𝓤 _ (emp 𝓤) (table-left e m not-3 not-4 not-2 not-1, (fit .0, (in-k, refl)))) (λ w v ws. id⊢ 𝓤 _) (λ w. (and-then ! (reads ! (from ! (stop !)) (look ! 37 refl)) (and-then ! (reads ! (from ! (stop !)) (look ! 8 refl)) (and-then ! (reads ! (from ! (stop !)) (look ! 32 refl)) (and-then ! (reads ! (from ! (stop !)) (look ! 31 refl)) (and-then ! (reads ! (from ! (stop !)) (look ! 30 refl)) (no-more !))))))) (λ g0 e0.
-          land ! (from ! (stop !)) (init ! 38 refl (typedAn (byTable .answer) g0)) $
+          An.the-row (step-table.clauses 𝓤 H A mem run) known-step-table valAn (EL.tells An.the-type An′.the-laws) (byTable .answer) (λ w. tt) (λ w. factI 𝓤 _ (emp 𝓤) (table-left e m not-3 not-4 not-2 not-1, (fit .0, (in-k, refl)))) (λ w v ws. id⊢ 𝓤 _) (λ w. (and-local ! 37 refl (and-local ! 8 refl (and-local ! 32 refl (and-local ! 31 refl (and-local ! 30 refl (no-more !))))))) (λ g0 e0.
+          land-in ! 38 refl (typedAn (byTable .answer) g0) $
           returns ! (look ! 38 refl) $ frees-all ! 8 (full _ _ _ ∷ full _ _ _ ∷ bare _ _ ∷ bare _ _ ∷ bare _ _ ∷ bare _ _ ∷ bare _ _ ∷ bare _ _ ∷ bare _ _ ∷ bare _ _ ∷ bare _ _ ∷ bare _ _ ∷ bare _ _ ∷ bare _ _ ∷ bare _ _ ∷ bare _ _ ∷ bare _ _ ∷ bare _ _ ∷ bare _ _ ∷ bare _ _ ∷ bare _ _ ∷ full _ _ _ ∷ full _ _ _ ∷ full _ _ _ ∷ full _ _ _ ∷ full _ _ _ ∷ full _ _ _ ∷ full _ _ _ ∷ full _ _ _ ∷ full _ _ _ ∷ full _ _ _ ∷ []) refl refl $
           keep ! (2 ∷ 3 ∷ 4 ∷ 5 ∷ 6 ∷ 7 ∷ 0 ∷ 1 ∷ []) $ by ! (exits (leaves (byTable .answer) ps acs ls (byTable .slots)) (by-table z e k m ps acs ls t (table-left e m not-3 not-4 not-2 not-1)) g0 refl refl refl (e0 .0)))
 
@@ -289,10 +288,8 @@ module _ {M : Type 1} (𝓤 : URA M) (H : Heap 𝓤) (A : Atoms 𝓤) (W : Given
           assigns ! (bin ! (reads ! (from ! (stop !)) (look ! 29 refl)) (lit ! tt) tt) (from ! (stop !)) (init ! 26 refl (tt, tt)) $
           first ! $ branches ! (reads ! (from ! (stop !)) (look ! 26 refl))
           (λ holds.
-          assigns ! (addr ! (from ! (fld ! refl (hop ! (look-in ! 36 (sub ! 0 refl (whole !))) (stop !))))) (from ! (stop !)) (init ! 13 refl (tt, tt)) $
-          assigns ! (agg ! (and-then ! (reads ! (from ! (stop !)) (look ! 13 refl)) (and-then ! (reads ! (from ! (fld ! refl (stop !))) (look-in ! 36 (sub ! 1 refl (whole !)))) (no-more !)))) (from ! (stop !)) (init ! 12 refl (tt, (tt, (record { fits = room₀ .0 }, tt)))) $
-          assigns ! (addr ! (from ! (fld ! refl (hop ! (look-in ! 33 (sub ! 0 refl (whole !))) (stop !))))) (from ! (stop !)) (init ! 11 refl (tt, tt)) $
-          assigns ! (agg ! (and-then ! (reads ! (from ! (stop !)) (look ! 11 refl)) (and-then ! (reads ! (from ! (fld ! refl (stop !))) (look-in ! 33 (sub ! 1 refl (whole !)))) (no-more !)))) (from ! (stop !)) (init ! 10 refl (tt, (tt, (record { fits = room₃ .0 }, tt)))) $
+          lends-again ! 36 13 12 refl refl refl refl (tt, tt) refl refl (tt, (tt, (record { fits = room₀ .0 }, tt))) refl $
+          lends-again ! 33 11 10 refl refl refl refl (tt, tt) refl refl (tt, (tt, (record { fits = room₃ .0 }, tt))) refl $
           move ! (2 ∷ 3 ∷ 0 ∷ 1 ∷ []) $
           calls ! fm (passed Sz.the-row valsSz makesSz z gz
           ∷ lent Pr.the-row κ₀ q₀ γ₀ b₀ o₀ n₀ ps (byProposer .proposers) refl room₀
@@ -300,8 +297,8 @@ module _ {M : Type 1} (𝓤 : URA M) (H : Heap 𝓤) (A : Atoms 𝓤) (W : Given
           ∷ passed Ev.the-row valsEv makesEv e ge
           ∷ passed usize (uint-vals w64) (uint-makes 𝓤 H A W w64) k g7
           ∷ passed Ms.the-row valsMs makesMs m g8 ∷ [])
-          An.the-row (step-proposer.clauses 𝓤 H A mem run) known-step-proposer valAn (EL.tells An.the-type An′.the-laws) (byProposer .answer) (λ w. tt) (λ w. factI 𝓤 _ (emp 𝓤) (holds, (fit .1 .0, (fit .0, (in-k, refl))))) (λ w v ws. id⊢ 𝓤 _) (λ w. (and-then ! (reads ! (from ! (stop !)) (look ! 35 refl)) (and-then ! (reads ! (from ! (stop !)) (look ! 10 refl)) (and-then ! (reads ! (from ! (stop !)) (look ! 8 refl)) (and-then ! (reads ! (from ! (stop !)) (look ! 30 refl)) (and-then ! (reads ! (from ! (stop !)) (look ! 29 refl)) (and-then ! (reads ! (from ! (stop !)) (look ! 28 refl)) (no-more !)))))))) (λ g0 e0.
-          land ! (from ! (stop !)) (init ! 38 refl (typedAn (byProposer .answer) g0)) $
+          An.the-row (step-proposer.clauses 𝓤 H A mem run) known-step-proposer valAn (EL.tells An.the-type An′.the-laws) (byProposer .answer) (λ w. tt) (λ w. factI 𝓤 _ (emp 𝓤) (holds, (fit .1 .0, (fit .0, (in-k, refl))))) (λ w v ws. id⊢ 𝓤 _) (λ w. (and-local ! 35 refl (and-local ! 10 refl (and-local ! 8 refl (and-local ! 30 refl (and-local ! 29 refl (and-local ! 28 refl (no-more !)))))))) (λ g0 e0.
+          land-in ! 38 refl (typedAn (byProposer .answer) g0) $
           returns-within ! Post refl (look ! 38 refl) $ frees-all ! 8 (bare _ _ ∷ bare _ _ ∷ full _ _ _ ∷ full _ _ _ ∷ full _ _ _ ∷ full _ _ _ ∷ bare _ _ ∷ bare _ _ ∷ bare _ _ ∷ bare _ _ ∷ bare _ _ ∷ bare _ _ ∷ bare _ _ ∷ bare _ _ ∷ bare _ _ ∷ bare _ _ ∷ bare _ _ ∷ bare _ _ ∷ full _ _ _ ∷ bare _ _ ∷ bare _ _ ∷ full _ _ _ ∷ full _ _ _ ∷ full _ _ _ ∷ full _ _ _ ∷ full _ _ _ ∷ full _ _ _ ∷ full _ _ _ ∷ full _ _ _ ∷ full _ _ _ ∷ full _ _ _ ∷ []) refl refl $
           keep ! (0 ∷ 1 ∷ 4 ∷ 5 ∷ 6 ∷ 7 ∷ 2 ∷ 3 ∷ []) $ by ! (exits (leaves (byProposer .answer) (byProposer .proposers) acs ls (byProposer .slots)) (by-proposer z e k m ps acs ls t holds) g0 (e0 .0) refl refl (e0 .1 .0))))
           (λ fails. skips ! $ exec ! C Λ En pieces.t-14 (atRet En Post) $ forget ! 26 refl $ arm-5 g7 g8 g9 not-3 not-4 not-2 fails)
@@ -312,10 +309,8 @@ module _ {M : Type 1} (𝓤 : URA M) (H : Heap 𝓤) (A : Atoms 𝓤) (W : Given
           assigns ! (bin ! (reads ! (from ! (stop !)) (look ! 29 refl)) (lit ! tt) tt) (from ! (stop !)) (init ! 26 refl (tt, tt)) $
           first ! $ branches ! (reads ! (from ! (stop !)) (look ! 26 refl))
           (λ holds.
-          assigns ! (addr ! (from ! (fld ! refl (hop ! (look-in ! 35 (sub ! 0 refl (whole !))) (stop !))))) (from ! (stop !)) (init ! 17 refl (tt, tt)) $
-          assigns ! (agg ! (and-then ! (reads ! (from ! (stop !)) (look ! 17 refl)) (and-then ! (reads ! (from ! (fld ! refl (stop !))) (look-in ! 35 (sub ! 1 refl (whole !)))) (no-more !)))) (from ! (stop !)) (init ! 16 refl (tt, (tt, (record { fits = room₁ .0 }, tt)))) $
-          assigns ! (addr ! (from ! (fld ! refl (hop ! (look-in ! 33 (sub ! 0 refl (whole !))) (stop !))))) (from ! (stop !)) (init ! 15 refl (tt, tt)) $
-          assigns ! (agg ! (and-then ! (reads ! (from ! (stop !)) (look ! 15 refl)) (and-then ! (reads ! (from ! (fld ! refl (stop !))) (look-in ! 33 (sub ! 1 refl (whole !)))) (no-more !)))) (from ! (stop !)) (init ! 14 refl (tt, (tt, (record { fits = room₃ .0 }, tt)))) $
+          lends-again ! 35 17 16 refl refl refl refl (tt, tt) refl refl (tt, (tt, (record { fits = room₁ .0 }, tt))) refl $
+          lends-again ! 33 15 14 refl refl refl refl (tt, tt) refl refl (tt, (tt, (record { fits = room₃ .0 }, tt))) refl $
           move ! (4 ∷ 5 ∷ 0 ∷ 1 ∷ []) $
           calls ! fm (passed Sz.the-row valsSz makesSz z gz
           ∷ lent Ac.the-row κ₁ q₁ γ₁ b₁ o₁ n₁ acs (byAcceptor .acceptors) refl room₁
@@ -323,8 +318,8 @@ module _ {M : Type 1} (𝓤 : URA M) (H : Heap 𝓤) (A : Atoms 𝓤) (W : Given
           ∷ passed Ev.the-row valsEv makesEv e ge
           ∷ passed usize (uint-vals w64) (uint-makes 𝓤 H A W w64) k g7
           ∷ passed Ms.the-row valsMs makesMs m g8 ∷ [])
-          An.the-row (step-acceptor.clauses 𝓤 H A mem run) known-step-acceptor valAn (EL.tells An.the-type An′.the-laws) (byAcceptor .answer) (λ w. tt) (λ w. factI 𝓤 _ (emp 𝓤) (holds, (fit .1 .1 .0, (fit .0, (in-k, refl))))) (λ w v ws. id⊢ 𝓤 _) (λ w. (and-then ! (reads ! (from ! (stop !)) (look ! 35 refl)) (and-then ! (reads ! (from ! (stop !)) (look ! 14 refl)) (and-then ! (reads ! (from ! (stop !)) (look ! 12 refl)) (and-then ! (reads ! (from ! (stop !)) (look ! 30 refl)) (and-then ! (reads ! (from ! (stop !)) (look ! 29 refl)) (and-then ! (reads ! (from ! (stop !)) (look ! 28 refl)) (no-more !)))))))) (λ g0 e0.
-          land ! (from ! (stop !)) (init ! 38 refl (typedAn (byAcceptor .answer) g0)) $
+          An.the-row (step-acceptor.clauses 𝓤 H A mem run) known-step-acceptor valAn (EL.tells An.the-type An′.the-laws) (byAcceptor .answer) (λ w. tt) (λ w. factI 𝓤 _ (emp 𝓤) (holds, (fit .1 .1 .0, (fit .0, (in-k, refl))))) (λ w v ws. id⊢ 𝓤 _) (λ w. (and-local ! 35 refl (and-local ! 14 refl (and-local ! 12 refl (and-local ! 30 refl (and-local ! 29 refl (and-local ! 28 refl (no-more !)))))))) (λ g0 e0.
+          land-in ! 38 refl (typedAn (byAcceptor .answer) g0) $
           returns-within ! Post refl (look ! 38 refl) $ frees-all ! 8 (bare _ _ ∷ bare _ _ ∷ bare _ _ ∷ bare _ _ ∷ bare _ _ ∷ bare _ _ ∷ full _ _ _ ∷ full _ _ _ ∷ full _ _ _ ∷ full _ _ _ ∷ bare _ _ ∷ bare _ _ ∷ bare _ _ ∷ bare _ _ ∷ bare _ _ ∷ bare _ _ ∷ bare _ _ ∷ bare _ _ ∷ full _ _ _ ∷ bare _ _ ∷ bare _ _ ∷ full _ _ _ ∷ full _ _ _ ∷ full _ _ _ ∷ full _ _ _ ∷ full _ _ _ ∷ full _ _ _ ∷ full _ _ _ ∷ full _ _ _ ∷ full _ _ _ ∷ full _ _ _ ∷ []) refl refl $
           keep ! (4 ∷ 5 ∷ 0 ∷ 1 ∷ 6 ∷ 7 ∷ 2 ∷ 3 ∷ []) $ by ! (exits (leaves (byAcceptor .answer) ps (byAcceptor .acceptors) ls (byAcceptor .slots)) (by-acceptor z e k m ps acs ls t holds) g0 refl (e0 .0) refl (e0 .1 .0))))
           (λ fails. skips ! $ exec ! C Λ En pieces.t-12 (atRet En Post) $ forget ! 26 refl $ arm-4 g7 g8 g9 not-3 not-4 fails)
@@ -335,10 +330,8 @@ module _ {M : Type 1} (𝓤 : URA M) (H : Heap 𝓤) (A : Atoms 𝓤) (W : Given
           assigns ! (bin ! (reads ! (from ! (stop !)) (look ! 29 refl)) (lit ! tt) tt) (from ! (stop !)) (init ! 26 refl (tt, tt)) $
           first ! $ branches ! (reads ! (from ! (stop !)) (look ! 26 refl))
           (λ holds.
-          assigns ! (addr ! (from ! (fld ! refl (hop ! (look-in ! 36 (sub ! 0 refl (whole !))) (stop !))))) (from ! (stop !)) (init ! 21 refl (tt, tt)) $
-          assigns ! (agg ! (and-then ! (reads ! (from ! (stop !)) (look ! 21 refl)) (and-then ! (reads ! (from ! (fld ! refl (stop !))) (look-in ! 36 (sub ! 1 refl (whole !)))) (no-more !)))) (from ! (stop !)) (init ! 20 refl (tt, (tt, (record { fits = room₀ .0 }, tt)))) $
-          assigns ! (addr ! (from ! (fld ! refl (hop ! (look-in ! 33 (sub ! 0 refl (whole !))) (stop !))))) (from ! (stop !)) (init ! 19 refl (tt, tt)) $
-          assigns ! (agg ! (and-then ! (reads ! (from ! (stop !)) (look ! 19 refl)) (and-then ! (reads ! (from ! (fld ! refl (stop !))) (look-in ! 33 (sub ! 1 refl (whole !)))) (no-more !)))) (from ! (stop !)) (init ! 18 refl (tt, (tt, (record { fits = room₃ .0 }, tt)))) $
+          lends-again ! 36 21 20 refl refl refl refl (tt, tt) refl refl (tt, (tt, (record { fits = room₀ .0 }, tt))) refl $
+          lends-again ! 33 19 18 refl refl refl refl (tt, tt) refl refl (tt, (tt, (record { fits = room₃ .0 }, tt))) refl $
           move ! (2 ∷ 3 ∷ 0 ∷ 1 ∷ []) $
           calls ! fm (passed Sz.the-row valsSz makesSz z gz
           ∷ lent Pr.the-row κ₀ q₀ γ₀ b₀ o₀ n₀ ps (byProposer .proposers) refl room₀
@@ -346,8 +339,8 @@ module _ {M : Type 1} (𝓤 : URA M) (H : Heap 𝓤) (A : Atoms 𝓤) (W : Given
           ∷ passed Ev.the-row valsEv makesEv e ge
           ∷ passed usize (uint-vals w64) (uint-makes 𝓤 H A W w64) k g7
           ∷ passed Ms.the-row valsMs makesMs m g8 ∷ [])
-          An.the-row (step-told.clauses 𝓤 H A mem run) known-step-told valAn (EL.tells An.the-type An′.the-laws) (byProposer .answer) (λ w. tt) (λ w. factI 𝓤 _ (emp 𝓤) (holds, (fit .1 .0, (fit .0, (in-k, refl))))) (λ w v ws. id⊢ 𝓤 _) (λ w. (and-then ! (reads ! (from ! (stop !)) (look ! 35 refl)) (and-then ! (reads ! (from ! (stop !)) (look ! 18 refl)) (and-then ! (reads ! (from ! (stop !)) (look ! 16 refl)) (and-then ! (reads ! (from ! (stop !)) (look ! 30 refl)) (and-then ! (reads ! (from ! (stop !)) (look ! 29 refl)) (and-then ! (reads ! (from ! (stop !)) (look ! 28 refl)) (no-more !)))))))) (λ g0 e0.
-          land ! (from ! (stop !)) (init ! 38 refl (typedAn (byProposer .answer) g0)) $
+          An.the-row (step-told.clauses 𝓤 H A mem run) known-step-told valAn (EL.tells An.the-type An′.the-laws) (byProposer .answer) (λ w. tt) (λ w. factI 𝓤 _ (emp 𝓤) (holds, (fit .1 .0, (fit .0, (in-k, refl))))) (λ w v ws. id⊢ 𝓤 _) (λ w. (and-local ! 35 refl (and-local ! 18 refl (and-local ! 16 refl (and-local ! 30 refl (and-local ! 29 refl (and-local ! 28 refl (no-more !)))))))) (λ g0 e0.
+          land-in ! 38 refl (typedAn (byProposer .answer) g0) $
           returns-within ! Post refl (look ! 38 refl) $ frees-all ! 8 (bare _ _ ∷ bare _ _ ∷ bare _ _ ∷ bare _ _ ∷ bare _ _ ∷ bare _ _ ∷ bare _ _ ∷ bare _ _ ∷ bare _ _ ∷ bare _ _ ∷ full _ _ _ ∷ full _ _ _ ∷ full _ _ _ ∷ full _ _ _ ∷ bare _ _ ∷ bare _ _ ∷ bare _ _ ∷ bare _ _ ∷ full _ _ _ ∷ bare _ _ ∷ bare _ _ ∷ full _ _ _ ∷ full _ _ _ ∷ full _ _ _ ∷ full _ _ _ ∷ full _ _ _ ∷ full _ _ _ ∷ full _ _ _ ∷ full _ _ _ ∷ full _ _ _ ∷ full _ _ _ ∷ []) refl refl $
           keep ! (0 ∷ 1 ∷ 4 ∷ 5 ∷ 6 ∷ 7 ∷ 2 ∷ 3 ∷ []) $ by ! (exits (leaves (byProposer .answer) (byProposer .proposers) acs ls (byProposer .slots)) (by-told z e k m ps acs ls t holds) g0 (e0 .0) refl refl (e0 .1 .0))))
           (λ fails. skips ! $ exec ! C Λ En pieces.t-10 (atRet En Post) $ forget ! 26 refl $ arm-3 g7 g8 g9 not-3 fails)
@@ -358,10 +351,8 @@ module _ {M : Type 1} (𝓤 : URA M) (H : Heap 𝓤) (A : Atoms 𝓤) (W : Given
           assigns ! (bin ! (reads ! (from ! (stop !)) (look ! 29 refl)) (lit ! tt) tt) (from ! (stop !)) (init ! 26 refl (tt, tt)) $
           first ! $ branches ! (reads ! (from ! (stop !)) (look ! 26 refl))
           (λ holds.
-          assigns ! (addr ! (from ! (fld ! refl (hop ! (look-in ! 34 (sub ! 0 refl (whole !))) (stop !))))) (from ! (stop !)) (init ! 25 refl (tt, tt)) $
-          assigns ! (agg ! (and-then ! (reads ! (from ! (stop !)) (look ! 25 refl)) (and-then ! (reads ! (from ! (fld ! refl (stop !))) (look-in ! 34 (sub ! 1 refl (whole !)))) (no-more !)))) (from ! (stop !)) (init ! 24 refl (tt, (tt, (record { fits = room₂ .0 }, tt)))) $
-          assigns ! (addr ! (from ! (fld ! refl (hop ! (look-in ! 33 (sub ! 0 refl (whole !))) (stop !))))) (from ! (stop !)) (init ! 23 refl (tt, tt)) $
-          assigns ! (agg ! (and-then ! (reads ! (from ! (stop !)) (look ! 23 refl)) (and-then ! (reads ! (from ! (fld ! refl (stop !))) (look-in ! 33 (sub ! 1 refl (whole !)))) (no-more !)))) (from ! (stop !)) (init ! 22 refl (tt, (tt, (record { fits = room₃ .0 }, tt)))) $
+          lends-again ! 34 25 24 refl refl refl refl (tt, tt) refl refl (tt, (tt, (record { fits = room₂ .0 }, tt))) refl $
+          lends-again ! 33 23 22 refl refl refl refl (tt, tt) refl refl (tt, (tt, (record { fits = room₃ .0 }, tt))) refl $
           move ! (6 ∷ 7 ∷ 0 ∷ 1 ∷ []) $
           calls ! fm (passed Sz.the-row valsSz makesSz z gz
           ∷ lent Le.the-row κ₂ q₂ γ₂ b₂ o₂ n₂ ls (byLearner .learners) refl room₂
@@ -369,8 +360,8 @@ module _ {M : Type 1} (𝓤 : URA M) (H : Heap 𝓤) (A : Atoms 𝓤) (W : Given
           ∷ passed Ev.the-row valsEv makesEv e ge
           ∷ passed usize (uint-vals w64) (uint-makes 𝓤 H A W w64) k g7
           ∷ passed Ms.the-row valsMs makesMs m g8 ∷ [])
-          An.the-row (step-learner.clauses 𝓤 H A mem run) known-step-learner valAn (EL.tells An.the-type An′.the-laws) (byLearner .answer) (λ w. tt) (λ w. factI 𝓤 _ (emp 𝓤) (holds, (fit .1 .1 .1 .0, (fit .0, (in-k, refl))))) (λ w v ws. id⊢ 𝓤 _) (λ w. (and-then ! (reads ! (from ! (stop !)) (look ! 35 refl)) (and-then ! (reads ! (from ! (stop !)) (look ! 22 refl)) (and-then ! (reads ! (from ! (stop !)) (look ! 20 refl)) (and-then ! (reads ! (from ! (stop !)) (look ! 30 refl)) (and-then ! (reads ! (from ! (stop !)) (look ! 29 refl)) (and-then ! (reads ! (from ! (stop !)) (look ! 28 refl)) (no-more !)))))))) (λ g0 e0.
-          land ! (from ! (stop !)) (init ! 38 refl (typedAn (byLearner .answer) g0)) $
+          An.the-row (step-learner.clauses 𝓤 H A mem run) known-step-learner valAn (EL.tells An.the-type An′.the-laws) (byLearner .answer) (λ w. tt) (λ w. factI 𝓤 _ (emp 𝓤) (holds, (fit .1 .1 .1 .0, (fit .0, (in-k, refl))))) (λ w v ws. id⊢ 𝓤 _) (λ w. (and-local ! 35 refl (and-local ! 22 refl (and-local ! 20 refl (and-local ! 30 refl (and-local ! 29 refl (and-local ! 28 refl (no-more !)))))))) (λ g0 e0.
+          land-in ! 38 refl (typedAn (byLearner .answer) g0) $
           returns-within ! Post refl (look ! 38 refl) $ frees-all ! 8 (bare _ _ ∷ bare _ _ ∷ bare _ _ ∷ bare _ _ ∷ bare _ _ ∷ bare _ _ ∷ bare _ _ ∷ bare _ _ ∷ bare _ _ ∷ bare _ _ ∷ bare _ _ ∷ bare _ _ ∷ bare _ _ ∷ bare _ _ ∷ full _ _ _ ∷ full _ _ _ ∷ full _ _ _ ∷ full _ _ _ ∷ full _ _ _ ∷ bare _ _ ∷ bare _ _ ∷ full _ _ _ ∷ full _ _ _ ∷ full _ _ _ ∷ full _ _ _ ∷ full _ _ _ ∷ full _ _ _ ∷ full _ _ _ ∷ full _ _ _ ∷ full _ _ _ ∷ full _ _ _ ∷ []) refl refl $
           keep ! (4 ∷ 5 ∷ 6 ∷ 7 ∷ 0 ∷ 1 ∷ 2 ∷ 3 ∷ []) $ by ! (exits (leaves (byLearner .answer) ps acs (byLearner .learners) (byLearner .slots)) (by-learner z e k m ps acs ls t holds) g0 refl refl (e0 .0) (e0 .1 .0))))
           (λ fails. skips ! $ exec ! C Λ En pieces.t-8 (atRet En Post) $ forget ! 26 refl $ arm-2 g7 g8 g9 fails)
@@ -379,17 +370,16 @@ module _ {M : Type 1} (𝓤 : URA M) (H : Heap 𝓤) (A : Atoms 𝓤) (W : Given
           ∷ ‵ (froom (sliceTy (tyRef erased mut (pointee (Ms.the-row .written)))) l₃₀ 0) ∷ ‵ (froom (tyRef erased mut (pointee (Ms.the-row .written))) l₂₉ 0) ∷ ‵ (froom (sliceTy (tyRef erased mut (pointee (Ms.the-row .written)))) l₂₈ 0) ∷ ‵ (froom (tyRef erased mut (pointee (Ms.the-row .written))) l₂₇ 0) ∷ ‵ (froom (sliceTy (tyRef erased mut (pointee (Pr.the-row .written)))) l₂₆ 0) ∷ ‵ (froom (tyRef erased mut (pointee (Pr.the-row .written))) l₂₅ 0) ∷ ‵ (froom (sliceTy (tyRef erased mut (pointee (Ms.the-row .written)))) l₂₄ 0) ∷ ‵ (froom (tyRef erased mut (pointee (Ms.the-row .written))) l₂₃ 0) ∷ ‵ (froom (sliceTy (tyRef erased mut (pointee (Ac.the-row .written)))) l₂₂ 0) ∷ ‵ (froom (tyRef erased mut (pointee (Ac.the-row .written))) l₂₁ 0) ∷ ‵ (froom (sliceTy (tyRef erased mut (pointee (Ms.the-row .written)))) l₂₀ 0) ∷ ‵ (froom (tyRef erased mut (pointee (Ms.the-row .written))) l₁₉ 0) ∷ ‵ (froom (sliceTy (tyRef erased mut (pointee (Pr.the-row .written)))) l₁₈ 0) ∷ ‵ (froom (tyRef erased mut (pointee (Pr.the-row .written))) l₁₇ 0) ∷ ‵ (froom (sliceTy (tyRef erased mut (pointee (Ms.the-row .written)))) l₁₆ 0) ∷ ‵ (froom (tyRef erased mut (pointee (Ms.the-row .written))) l₁₅ 0) ∷ ‵ (froom (sliceTy (tyRef erased mut (pointee (Le.the-row .written)))) l₁₄ 0) ∷ ‵ (froom (tyRef erased mut (pointee (Le.the-row .written))) l₁₃ 0) ∷ ‵ (froom tyBool l₁₂ 0) ∷ ‵ (froom (sliceTy (tyRef erased imm (pointee (Ms.the-row .written)))) l₁₁ 0) ∷ ‵ (froom (tyRef erased imm (pointee (Ms.the-row .written))) l₁₀ 0) ∷ ‵ (froom byte l₉ 0) ∷ ‵ (froom Ms′.mir l₈ 0) ∷ ‵ (froom word l₇ 0) ∷ ‵ (fat fullShare Ev′.mir l₆ 0 (valEv e)) ∷ ‵ (fat fullShare (sliceTy (tyRef (named 3) mut (pointee (Ms.the-row .written)))) l₅ 0 s₃) ∷ ‵ (fat fullShare (sliceTy (tyRef (named 2) mut (pointee (Le.the-row .written)))) l₄ 0 s₂) ∷ ‵ (fat fullShare (sliceTy (tyRef (named 1) mut (pointee (Ac.the-row .written)))) l₃ 0 s₁) ∷ ‵ (fat fullShare (sliceTy (tyRef (named 0) mut (pointee (Pr.the-row .written)))) l₂ 0 s₀) ∷ ‵ (fat fullShare Sz′.mir l₁ 0 (valSz z)) ∷ ‵ (froom An′.mir l₀ 0) ∷ Dies ∷ []) (runs C Λ En pieces.t-1 (atRet En Post))
       part-1 =
           calls-value ! fm (slot-at.signature .params) usize (slot-at.ended .kept) (slot-at.clauses 𝓤 H A mem run) known-slot-at (valsSz, (valsEv, tt)) (makesSz, (makesEv, tt)) (vint w64) (uint-tells w64)
-          (z, (e, tt)) (gz, (ge, tt)) tt (id⊢ 𝓤 (emp 𝓤)) k (λ r e′. id⊢ 𝓤 (fact 𝓤 (r ≡ k))) (and-then ! (reads ! (from ! (stop !)) (look ! 38 refl)) (and-then ! (reads ! (from ! (stop !)) (look ! 33 refl)) (no-more !))) (λ g7.
-          land ! (from ! (stop !)) (init ! 31 refl (tt, record { fits = g7 .1 })) $
-          assigns ! (addr ! (from ! (fld ! refl (hop ! (look-in ! 33 (sub ! 0 refl (whole !))) (stop !))))) (from ! (stop !)) (init ! 28 refl (tt, tt)) $
-          assigns ! (agg ! (and-then ! (reads ! (from ! (stop !)) (look ! 28 refl)) (and-then ! (reads ! (from ! (fld ! refl (stop !))) (look-in ! 33 (sub ! 1 refl (whole !)))) (no-more !)))) (from ! (stop !)) (init ! 27 refl (tt, (tt, (record { fits = room₃ .0 }, tt)))) $
+          (z, (e, tt)) (gz, (ge, tt)) tt (id⊢ 𝓤 (emp 𝓤)) k (λ r e′. id⊢ 𝓤 (fact 𝓤 (r ≡ k))) (and-local ! 38 refl (and-local ! 33 refl (no-more !))) (λ g7.
+          land-in ! 31 refl (tt, record { fits = g7 .1 }) $
+          lends-again ! 33 28 27 refl refl refl refl (tt, tt) refl refl (tt, (tt, (record { fits = room₃ .0 }, tt))) refl $
           move ! (6 ∷ 7 ∷ []) $
           calls-shared ! fm Ms.the-row (plain (λ _. usize) ∷ []) Ms.the-row (yes, tt) valMs (LL.tells Ms.the-type Ms′.the-laws) b₃ o₃ n₃ t refl (λ ν. (uint-vals w64, tt)) (λ ν. (uint-makes 𝓤 H A W w64, tt)) (λ ν. (k, tt)) (λ ν. (g7, tt))
-          (load-message.clauses 𝓤 H A mem run) known-load-message m (λ ν δ. tt) (λ ν δ. factI 𝓤 _ (emp 𝓤) in-k) (λ ν δ r e′. id⊢ 𝓤 (fact 𝓤 (r ≡ m))) (λ ν δ. (and-then ! (reads ! (from ! (stop !)) (look ! 30 refl)) (and-then ! (reads ! (from ! (stop !)) (look ! 34 refl)) (no-more !)))) (λ g8.
-          land ! (from ! (stop !)) (init ! 30 refl (typedMs m g8)) $
+          (load-message.clauses 𝓤 H A mem run) known-load-message m (λ ν δ. tt) (λ ν δ. factI 𝓤 _ (emp 𝓤) in-k) (λ ν δ r e′. id⊢ 𝓤 (fact 𝓤 (r ≡ m))) (λ ν δ. (and-local ! 30 refl (and-local ! 34 refl (no-more !)))) (λ g8.
+          land-in ! 30 refl (typedMs m g8) $
           calls-value ! fm (arms-arm-of.signature .params) u8 (arms-arm-of.ended .kept) (arms-arm-of.clauses 𝓤 H A mem run) known-arms-arm-of (valsEv, (valsMs, tt)) (makesEv, (makesMs, tt)) (vint w8) (uint-tells w8)
-          (e, (m, tt)) (ge, (g8, tt)) tt (id⊢ 𝓤 (emp 𝓤)) n (λ r e′. id⊢ 𝓤 (fact 𝓤 (r ≡ n))) (and-then ! (reads ! (from ! (stop !)) (look ! 33 refl)) (and-then ! (reads ! (from ! (stop !)) (look ! 31 refl)) (no-more !))) (λ g9.
-          land ! (from ! (stop !)) (init ! 29 refl (tt, record { fits = g9 .1 })) $
+          (e, (m, tt)) (ge, (g8, tt)) tt (id⊢ 𝓤 (emp 𝓤)) n (λ r e′. id⊢ 𝓤 (fact 𝓤 (r ≡ n))) (and-local ! 33 refl (and-local ! 31 refl (no-more !))) (λ g9.
+          land-in ! 29 refl (tt, record { fits = g9 .1 }) $
           forget ! 28 refl $
           forget ! 27 refl $
           arm-1 g7 g8 g9)))
@@ -397,11 +387,11 @@ module _ {M : Type 1} (𝓤 : URA M) (H : Heap 𝓤) (A : Atoms 𝓤) (W : Given
     walk : ent 𝓤 (onEntry 𝓤 H A this.signature (κ₀, (κ₁, (κ₂, (κ₃, tt)))) (q₀, (q₁, (q₂, (q₃, tt)))) (z, (listAt Pr.the-row b₀ o₀ ps γ₀, (listAt Ac.the-row b₁ o₁ acs γ₁, (listAt Le.the-row b₂ o₂ ls γ₂, (listAt Ms.the-row b₃ o₃ t γ₃, (e, tt)))))) at) (WpFn 𝓤 H C Λ code.function (valSz z ∷ s₀ ∷ s₁ ∷ s₂ ∷ s₃ ∷ valEv e ∷ []) Post)
     walk =
         qed W ((‵ (flft κ₀ q₀) ⊛ ‵ (flft κ₁ q₁) ⊛ ‵ (flft κ₂ q₂) ⊛ ‵ (flft κ₃ q₃) ⊛ ‵ ftrue) ∷ ‵ (owns (Sz.the-row ∷ MutSlice (named 0) κ₀ Pr.the-row ∷ MutSlice (named 1) κ₁ Ac.the-row ∷ MutSlice (named 2) κ₂ Le.the-row ∷ MutSlice (named 3) κ₃ Ms.the-row ∷ Ev.the-row ∷ []) (z, (listAt Pr.the-row b₀ o₀ ps γ₀, (listAt Ac.the-row b₁ o₁ acs γ₁, (listAt Le.the-row b₂ o₂ ls γ₂, (listAt Ms.the-row b₃ o₃ t γ₃, (e, tt)))))) at) ∷ []) ∵ enter ! C Λ code.function (valSz z ∷ s₀ ∷ s₁ ∷ s₂ ∷ s₃ ∷ valEv e ∷ []) _ $
-        alloc1 ! (λ l₀. alloc1 ! (λ l₁. alloc1 ! (λ l₂. alloc1 ! (λ l₃. alloc1 ! (λ l₄. alloc1 ! (λ l₅. alloc1 ! (λ l₆. alloc1 ! (λ l₇. alloc1 ! (λ l₈. alloc1 ! (λ l₉. alloc1 ! (λ l₁₀. alloc1 ! (λ l₁₁. alloc1 ! (λ l₁₂. alloc1 ! (λ l₁₃. alloc1 ! (λ l₁₄. alloc1 ! (λ l₁₅. alloc1 ! (λ l₁₆. alloc1 ! (λ l₁₇. alloc1 ! (λ l₁₈. alloc1 ! (λ l₁₉. alloc1 ! (λ l₂₀. alloc1 ! (λ l₂₁. alloc1 ! (λ l₂₂. alloc1 ! (λ l₂₃. alloc1 ! (λ l₂₄. alloc1 ! (λ l₂₅. alloc1 ! (λ l₂₆. alloc1 ! (λ l₂₇. alloc1 ! (λ l₂₈. alloc1 ! (λ l₂₉. alloc1 ! (λ l₃₀. alloc0 ! $ dies-apart ! 31 $ params1 ! $
+        allocates ! (λ l₀ l₁ l₂ l₃ l₄ l₅ l₆ l₇ l₈ l₉ l₁₀ l₁₁ l₁₂ l₁₃ l₁₄ l₁₅ l₁₆ l₁₇ l₁₈ l₁₉ l₂₀ l₂₁ l₂₂ l₂₃ l₂₄ l₂₅ l₂₆ l₂₇ l₂₈ l₂₉ l₃₀. params1 ! $
         pass1 ! (init ! 30 refl (typedSz z gz)) $ pass1 ! (init ! 29 refl (tt, (tt, (record { fits = room₀ .0 }, tt)))) $ pass1 ! (init ! 28 refl (tt, (tt, (record { fits = room₁ .0 }, tt)))) $ pass1 ! (init ! 27 refl (tt, (tt, (record { fits = room₂ .0 }, tt)))) $ pass1 ! (init ! 26 refl (tt, (tt, (record { fits = room₃ .0 }, tt)))) $ pass1 ! (init ! 25 refl (typedEv e ge)) $ pass0 ! $
         move ! (33 ∷ []) $ fsplit ! $ move ! (1 ∷ []) $ fsplit ! $ move ! (1 ∷ []) $ fsplit ! $ move ! (1 ∷ []) $ fsplit ! $ move ! (1 ∷ []) $ fsplit ! $
         move ! (38 ∷ []) $ split ! $ move ! (1 ∷ []) $ split ! $ move ! (1 ∷ []) $ split ! $ move ! (1 ∷ []) $ split ! $
-        keep ! (9 ∷ 4 ∷ 8 ∷ 3 ∷ 7 ∷ 2 ∷ 5 ∷ 0 ∷ 12 ∷ 13 ∷ 14 ∷ 15 ∷ 16 ∷ 17 ∷ 18 ∷ 19 ∷ 20 ∷ 21 ∷ 22 ∷ 23 ∷ 24 ∷ 25 ∷ 26 ∷ 27 ∷ 28 ∷ 29 ∷ 30 ∷ 31 ∷ 32 ∷ 33 ∷ 34 ∷ 35 ∷ 36 ∷ 37 ∷ 38 ∷ 39 ∷ 40 ∷ 41 ∷ 42 ∷ 11 ∷ []) $ part-1 l₀ l₁ l₂ l₃ l₄ l₅ l₆ l₇ l₈ l₉ l₁₀ l₁₁ l₁₂ l₁₃ l₁₄ l₁₅ l₁₆ l₁₇ l₁₈ l₁₉ l₂₀ l₂₁ l₂₂ l₂₃ l₂₄ l₂₅ l₂₆ l₂₇ l₂₈ l₂₉ l₃₀)))))))))))))))))))))))))))))))
+        keep ! (9 ∷ 4 ∷ 8 ∷ 3 ∷ 7 ∷ 2 ∷ 5 ∷ 0 ∷ 12 ∷ 13 ∷ 14 ∷ 15 ∷ 16 ∷ 17 ∷ 18 ∷ 19 ∷ 20 ∷ 21 ∷ 22 ∷ 23 ∷ 24 ∷ 25 ∷ 26 ∷ 27 ∷ 28 ∷ 29 ∷ 30 ∷ 31 ∷ 32 ∷ 33 ∷ 34 ∷ 35 ∷ 36 ∷ 37 ∷ 38 ∷ 39 ∷ 40 ∷ 41 ∷ 42 ∷ 11 ∷ []) $ part-1 l₀ l₁ l₂ l₃ l₄ l₅ l₆ l₇ l₈ l₉ l₁₀ l₁₁ l₁₂ l₁₃ l₁₄ l₁₅ l₁₆ l₁₇ l₁₈ l₁₉ l₂₀ l₂₁ l₂₂ l₂₃ l₂₄ l₂₅ l₂₆ l₂₇ l₂₈ l₂₉ l₃₀)
 
 module _ {M : Type 1} (𝓤 : URA M) (H : Heap 𝓤) (A : Atoms 𝓤) (W : Given 𝓤 H A) (mem : Memory → SProp 𝓤) (run : Routine → Fun 𝓤) (𝓣 : Tables 𝓤 H) (known-slot-at : Triple 𝓤 (𝓣 .C #slot-at) (Of-slot-at 𝓤 H A mem run)) (known-load-message : Triple 𝓤 (𝓣 .C #load-message) (Of-load-message 𝓤 H A mem run)) (known-arms-arm-of : Triple 𝓤 (𝓣 .C #arms-arm-of) (Of-arms-arm-of 𝓤 H A mem run)) (known-step-learner : Triple 𝓤 (𝓣 .C #step-learner) (Of-step-learner 𝓤 H A mem run)) (known-step-told : Triple 𝓤 (𝓣 .C #step-told) (Of-step-told 𝓤 H A mem run)) (known-step-acceptor : Triple 𝓤 (𝓣 .C #step-acceptor) (Of-step-acceptor 𝓤 H A mem run)) (known-step-proposer : Triple 𝓤 (𝓣 .C #step-proposer) (Of-step-proposer 𝓤 H A mem run)) (known-step-table : Triple 𝓤 (𝓣 .C #step-table) (Of-step-table 𝓤 H A mem run)) where
   f-walks : Walks 𝓤 H A this.ended stayed (WpFn 𝓤 H (𝓣 .C) (𝓣 .Λ) code.function) (this.clauses 𝓤 H A mem run)

@@ -18,8 +18,7 @@ use ghost.Atoms.{Atoms}
 use contract.Monad.{Fun, fact, factI, fact-mono}
 use contract.Running.{givenOf, tables, tablesOf}
 use types.Kit.{Given, Item, ‵, _⊛_, ⋆, runs, atRet, Sq, _$_, _∵_, !, qed, by, move, keep, split, join, fsplit, fjoin, suffices, frame, done}
-use types.Part.{agg, whole, sub, look-in}
-use types.Run.{look, init, forget, stop, hop, fld, from, load as reads, addr, and-then, no-more, assigns, land, returns, enter, alloc1, alloc0, params1, pass1, pass0}
+use types.Run.{look, init, forget, no-more, returns, enter, params1, pass1, pass0}
 use sound.WpLaws.{FmC, fmOf, WpFn-mono}
 use denote.RattleType.{owns}
 use denote.Laws.{Is, Makes}
@@ -43,7 +42,8 @@ use Rattle.decisions.specs.Change.{slotAfter}
 use Rattle.decisions.specs.Arms.{listenOf, heardIn}
 use Rattle.machine.specs.Stepping.{indexIn, partyOf}
 use Rattle.machine.specs.Roles.{earOf, putEar, OfLearner}
-use Rattle.machine.proofs.Frees.{full, bare, dies-apart, frees-all}
+use Rattle.machine.proofs.Frees.{full, bare, allocates, frees-all}
+use Rattle.machine.proofs.Moves.{and-local, land-in, lends-again}
 use Rattle.machine.proofs.Relending.{Slice, listAt}
 use Rattle.machine.proofs.CallsByValue.{calls-value}
 use Rattle.machine.proofs.CallsLending.{calls-shared, calls-lent}
@@ -339,8 +339,8 @@ module _ {M : Type 1} (𝓤 : URA M) (H : Heap 𝓤) (A : Atoms 𝓤) (W : Given
           ∷ ‵ (froom (sliceTy (tyRef erased mut (pointee (Ms.the-row .written)))) l₂₀ 0) ∷ ‵ (froom (tyRef erased mut (pointee (Ms.the-row .written))) l₁₉ 0) ∷ ‵ (froom (sliceTy (tyRef erased mut (pointee (Le.the-row .written)))) l₁₈ 0) ∷ ‵ (froom (tyRef erased mut (pointee (Le.the-row .written))) l₁₇ 0) ∷ ‵ (froom tyUnit l₁₆ 0) ∷ ‵ (froom (sliceTy (tyRef erased imm (pointee (Le.the-row .written)))) l₁₅ 0) ∷ ‵ (froom (tyRef erased imm (pointee (Le.the-row .written))) l₁₄ 0) ∷ ‵ (fat fullShare Ms′.mir l₁₃ 0 (valMs (slotAfter (y .frees) m))) ∷ ‵ (fat fullShare Ea′.mir l₁₂ 0 (valEa (y .ear))) ∷ ‵ (fat fullShare Li′.mir l₁₁ 0 (valLi y)) ∷ ‵ (fat fullShare Ea′.mir l₁₀ 0 (valEa x)) ∷ ‵ (fat fullShare Pi′.mir l₉ 0 (valPi (m .proposer))) ∷ ‵ (fat fullShare Ll′.mir l₈ 0 (valLl lid)) ∷ ‵ (fat fullShare word l₇ 0 (vint w64 i)) ∷ ‵ (fat fullShare Ms′.mir l₆ 0 (valMs m)) ∷ ‵ (fat fullShare word l₅ 0 (vint w64 k)) ∷ ‵ (fat fullShare Ev′.mir l₄ 0 (valEv e)) ∷ ‵ (fat fullShare (sliceTy (tyRef (named 1) mut (pointee (Ms.the-row .written)))) l₃ 0 s₁) ∷ ‵ (fat fullShare (sliceTy (tyRef (named 0) mut (pointee (Le.the-row .written)))) l₂ 0 s₀) ∷ ‵ (fat fullShare Sz′.mir l₁ 0 (valSz z)) ∷ ‵ (froom An′.mir l₀ 0) ∷ Dies ∷ []) (runs C Λ En pieces.t-16 (atRet En Post))
       part-5 g7 g8 g9 g10 g11 g12 g13 e18 e20 =
           calls-value ! fm (said-in.signature .params) An.the-row (said-in.ended .kept) (said-in.clauses 𝓤 H A mem run) known-said-in (valsLi, tt) (makesLi, tt) valAn (EL.tells An.the-type An′.the-laws)
-          (y, tt) (g11, tt) tt (id⊢ 𝓤 (emp 𝓤)) r₀ (λ r e′. id⊢ 𝓤 (fact 𝓤 (r ≡ r₀))) (and-then ! (reads ! (from ! (stop !)) (look ! 14 refl)) (no-more !)) (λ g0.
-          land ! (from ! (stop !)) (init ! 24 refl (typedAn r₀ g0)) $
+          (y, tt) (g11, tt) tt (id⊢ 𝓤 (emp 𝓤)) r₀ (λ r e′. id⊢ 𝓤 (fact 𝓤 (r ≡ r₀))) (and-local ! 14 refl (no-more !)) (λ g0.
+          land-in ! 24 refl (typedAn r₀ g0) $
           returns ! (look ! 24 refl) $ frees-all ! 4 (bare _ _ ∷ bare _ _ ∷ bare _ _ ∷ bare _ _ ∷ bare _ _ ∷ bare _ _ ∷ bare _ _ ∷ full _ _ _ ∷ full _ _ _ ∷ full _ _ _ ∷ full _ _ _ ∷ full _ _ _ ∷ full _ _ _ ∷ full _ _ _ ∷ full _ _ _ ∷ full _ _ _ ∷ full _ _ _ ∷ full _ _ _ ∷ full _ _ _ ∷ full _ _ _ ∷ full _ _ _ ∷ []) refl refl $
           keep ! (2 ∷ 3 ∷ 0 ∷ 1 ∷ []) $ by ! (exits g0 e18 e20))
 
@@ -348,14 +348,13 @@ module _ {M : Type 1} (𝓤 : URA M) (H : Heap 𝓤) (A : Atoms 𝓤) (W : Given
           ∷ ‵ (froom (sliceTy (tyRef erased mut (pointee (Ms.the-row .written)))) l₂₀ 0) ∷ ‵ (froom (tyRef erased mut (pointee (Ms.the-row .written))) l₁₉ 0) ∷ ‵ (froom (sliceTy (tyRef erased mut (pointee (Le.the-row .written)))) l₁₈ 0) ∷ ‵ (froom (tyRef erased mut (pointee (Le.the-row .written))) l₁₇ 0) ∷ ‵ (froom tyUnit l₁₆ 0) ∷ ‵ (froom (sliceTy (tyRef erased imm (pointee (Le.the-row .written)))) l₁₅ 0) ∷ ‵ (froom (tyRef erased imm (pointee (Le.the-row .written))) l₁₄ 0) ∷ ‵ (froom Ms′.mir l₁₃ 0) ∷ ‵ (fat fullShare Ea′.mir l₁₂ 0 (valEa (y .ear))) ∷ ‵ (fat fullShare Li′.mir l₁₁ 0 (valLi y)) ∷ ‵ (fat fullShare Ea′.mir l₁₀ 0 (valEa x)) ∷ ‵ (fat fullShare Pi′.mir l₉ 0 (valPi (m .proposer))) ∷ ‵ (fat fullShare Ll′.mir l₈ 0 (valLl lid)) ∷ ‵ (fat fullShare word l₇ 0 (vint w64 i)) ∷ ‵ (fat fullShare Ms′.mir l₆ 0 (valMs m)) ∷ ‵ (fat fullShare word l₅ 0 (vint w64 k)) ∷ ‵ (fat fullShare Ev′.mir l₄ 0 (valEv e)) ∷ ‵ (fat fullShare (sliceTy (tyRef (named 1) mut (pointee (Ms.the-row .written)))) l₃ 0 s₁) ∷ ‵ (fat fullShare (sliceTy (tyRef (named 0) mut (pointee (Le.the-row .written)))) l₂ 0 s₀) ∷ ‵ (fat fullShare Sz′.mir l₁ 0 (valSz z)) ∷ ‵ (froom An′.mir l₀ 0) ∷ Dies ∷ []) (runs C Λ En pieces.t-12 (atRet En Post))
       part-4 g7 g8 g9 g10 g11 g12 e18 =
           calls-value ! fm (slot-heard.signature .params) Ms.the-row (slot-heard.ended .kept) (slot-heard.clauses 𝓤 H A mem run) known-slot-heard (valsLi, (valsMs, tt)) (makesLi, (makesMs, tt)) valMs (LL.tells Ms.the-type Ms′.the-laws)
-          (y, (m, tt)) (g11, (gm, tt)) tt (id⊢ 𝓤 (emp 𝓤)) (slotAfter (y .frees) m) (λ r e′. id⊢ 𝓤 (fact 𝓤 (r ≡ (slotAfter (y .frees) m)))) (and-then ! (reads ! (from ! (stop !)) (look ! 14 refl)) (and-then ! (reads ! (from ! (stop !)) (look ! 19 refl)) (no-more !))) (λ g13.
-          land ! (from ! (stop !)) (init ! 11 refl (typedMs (slotAfter (y .frees) m) g13)) $
-          assigns ! (addr ! (from ! (fld ! refl (hop ! (look-in ! 21 (sub ! 0 refl (whole !))) (stop !))))) (from ! (stop !)) (init ! 5 refl (tt, tt)) $
-          assigns ! (agg ! (and-then ! (reads ! (from ! (stop !)) (look ! 5 refl)) (and-then ! (reads ! (from ! (fld ! refl (stop !))) (look-in ! 21 (sub ! 1 refl (whole !)))) (no-more !)))) (from ! (stop !)) (init ! 4 refl (tt, (tt, (record { fits = room₁ .0 }, tt)))) $
+          (y, (m, tt)) (g11, (gm, tt)) tt (id⊢ 𝓤 (emp 𝓤)) (slotAfter (y .frees) m) (λ r e′. id⊢ 𝓤 (fact 𝓤 (r ≡ (slotAfter (y .frees) m)))) (and-local ! 14 refl (and-local ! 19 refl (no-more !))) (λ g13.
+          land-in ! 11 refl (typedMs (slotAfter (y .frees) m) g13) $
+          lends-again ! 21 5 4 refl refl refl refl (tt, tt) refl refl (tt, (tt, (record { fits = room₁ .0 }, tt))) refl $
           move ! (2 ∷ 3 ∷ []) $
           calls-lent ! fm Ms.the-row (plain (λ _. usize) ∷ plain (λ _. Ms.the-row) ∷ []) Nothing (yes, (yes, tt)) (λ _. vunit) nothing-tells b₁ o₁ n₁ t refl (λ ν. (uint-vals w64, (valsMs, tt))) (λ ν. (uint-makes 𝓤 H A W w64, (makesMs, tt))) (λ ν. (k, ((slotAfter (y .frees) m), tt))) (λ ν. (gk, (g13, tt)))
-          (store-message.clauses 𝓤 H A mem run) known-store-message room₁ tt t′ (λ ν δ. tt) (λ ν δ. factI 𝓤 _ (emp 𝓤) in-k) (λ ν δ r ws. fact-mono 𝓤 (ws .0 ≡ t′) ((r ≡ tt) × (ws .0 ≡ t′)) (λ e′. (refl, e′))) (λ ν δ. (and-then ! (reads ! (from ! (stop !)) (look ! 4 refl)) (and-then ! (reads ! (from ! (stop !)) (look ! 19 refl)) (and-then ! (reads ! (from ! (stop !)) (look ! 11 refl)) (no-more !))))) (λ _ e20.
-          land ! (from ! (stop !)) (init ! 8 refl (tt, tt)) $
+          (store-message.clauses 𝓤 H A mem run) known-store-message room₁ tt t′ (λ ν δ. tt) (λ ν δ. factI 𝓤 _ (emp 𝓤) in-k) (λ ν δ r ws. fact-mono 𝓤 (ws .0 ≡ t′) ((r ≡ tt) × (ws .0 ≡ t′)) (λ e′. (refl, e′))) (λ ν δ. (and-local ! 4 refl (and-local ! 19 refl (and-local ! 11 refl (no-more !))))) (λ _ e20.
+          land-in ! 8 refl (tt, tt) $
           forget ! 8 refl $
           forget ! 5 refl $
           forget ! 4 refl $
@@ -365,13 +364,12 @@ module _ {M : Type 1} (𝓤 : URA M) (H : Heap 𝓤) (A : Atoms 𝓤) (W : Given
           ∷ ‵ (froom (sliceTy (tyRef erased mut (pointee (Ms.the-row .written)))) l₂₀ 0) ∷ ‵ (froom (tyRef erased mut (pointee (Ms.the-row .written))) l₁₉ 0) ∷ ‵ (froom (sliceTy (tyRef erased mut (pointee (Le.the-row .written)))) l₁₈ 0) ∷ ‵ (froom (tyRef erased mut (pointee (Le.the-row .written))) l₁₇ 0) ∷ ‵ (froom tyUnit l₁₆ 0) ∷ ‵ (froom (sliceTy (tyRef erased imm (pointee (Le.the-row .written)))) l₁₅ 0) ∷ ‵ (froom (tyRef erased imm (pointee (Le.the-row .written))) l₁₄ 0) ∷ ‵ (froom Ms′.mir l₁₃ 0) ∷ ‵ (froom Ea′.mir l₁₂ 0) ∷ ‵ (fat fullShare Li′.mir l₁₁ 0 (valLi y)) ∷ ‵ (fat fullShare Ea′.mir l₁₀ 0 (valEa x)) ∷ ‵ (fat fullShare Pi′.mir l₉ 0 (valPi (m .proposer))) ∷ ‵ (fat fullShare Ll′.mir l₈ 0 (valLl lid)) ∷ ‵ (fat fullShare word l₇ 0 (vint w64 i)) ∷ ‵ (fat fullShare Ms′.mir l₆ 0 (valMs m)) ∷ ‵ (fat fullShare word l₅ 0 (vint w64 k)) ∷ ‵ (fat fullShare Ev′.mir l₄ 0 (valEv e)) ∷ ‵ (fat fullShare (sliceTy (tyRef (named 1) mut (pointee (Ms.the-row .written)))) l₃ 0 s₁) ∷ ‵ (fat fullShare (sliceTy (tyRef (named 0) mut (pointee (Le.the-row .written)))) l₂ 0 s₀) ∷ ‵ (fat fullShare Sz′.mir l₁ 0 (valSz z)) ∷ ‵ (froom An′.mir l₀ 0) ∷ Dies ∷ []) (runs C Λ En pieces.t-8 (atRet En Post))
       part-3 g7 g8 g9 g10 g11 =
           calls-value ! fm (ear-in.signature .params) Ea.the-row (ear-in.ended .kept) (ear-in.clauses 𝓤 H A mem run) known-ear-in (valsLi, tt) (makesLi, tt) valEa (LL.tells Ea.the-type Ea′.the-laws)
-          (y, tt) (g11, tt) tt (id⊢ 𝓤 (emp 𝓤)) (y .ear) (λ r e′. id⊢ 𝓤 (fact 𝓤 (r ≡ (y .ear)))) (and-then ! (reads ! (from ! (stop !)) (look ! 14 refl)) (no-more !)) (λ g12.
-          land ! (from ! (stop !)) (init ! 12 refl (typedEa (y .ear) g12)) $
-          assigns ! (addr ! (from ! (fld ! refl (hop ! (look-in ! 22 (sub ! 0 refl (whole !))) (stop !))))) (from ! (stop !)) (init ! 7 refl (tt, tt)) $
-          assigns ! (agg ! (and-then ! (reads ! (from ! (stop !)) (look ! 7 refl)) (and-then ! (reads ! (from ! (fld ! refl (stop !))) (look-in ! 22 (sub ! 1 refl (whole !)))) (no-more !)))) (from ! (stop !)) (init ! 6 refl (tt, (tt, (record { fits = room₀ .0 }, tt)))) $
+          (y, tt) (g11, tt) tt (id⊢ 𝓤 (emp 𝓤)) (y .ear) (λ r e′. id⊢ 𝓤 (fact 𝓤 (r ≡ (y .ear)))) (and-local ! 14 refl (no-more !)) (λ g12.
+          land-in ! 12 refl (typedEa (y .ear) g12) $
+          lends-again ! 22 7 6 refl refl refl refl (tt, tt) refl refl (tt, (tt, (record { fits = room₀ .0 }, tt))) refl $
           calls-lent ! fm Le.the-row (plain (λ _. Ll.the-row) ∷ plain (λ _. Pi.the-row) ∷ plain (λ _. Ea.the-row) ∷ []) Nothing (yes, (yes, (yes, tt))) (λ _. vunit) nothing-tells b₀ o₀ n₀ ls refl (λ ν. (valsLl, (valsPi, (valsEa, tt)))) (λ ν. (makesLl, (makesPi, (makesEa, tt)))) (λ ν. (lid, ((m .proposer), ((y .ear), tt)))) (λ ν. (g8, (g9, (g12, tt))))
-          (store-ear.clauses 𝓤 H A mem run) known-store-ear room₀ tt ls′ (λ ν δ. tt) (λ ν δ. factI 𝓤 _ (emp 𝓤) in-l) (λ ν δ r ws. fact-mono 𝓤 (ws .0 ≡ ls′) ((r ≡ tt) × (ws .0 ≡ ls′)) (λ e′. (refl, e′))) (λ ν δ. (and-then ! (reads ! (from ! (stop !)) (look ! 6 refl)) (and-then ! (reads ! (from ! (stop !)) (look ! 16 refl)) (and-then ! (reads ! (from ! (stop !)) (look ! 15 refl)) (and-then ! (reads ! (from ! (stop !)) (look ! 12 refl)) (no-more !)))))) (λ _ e18.
-          land ! (from ! (stop !)) (init ! 8 refl (tt, tt)) $
+          (store-ear.clauses 𝓤 H A mem run) known-store-ear room₀ tt ls′ (λ ν δ. tt) (λ ν δ. factI 𝓤 _ (emp 𝓤) in-l) (λ ν δ r ws. fact-mono 𝓤 (ws .0 ≡ ls′) ((r ≡ tt) × (ws .0 ≡ ls′)) (λ e′. (refl, e′))) (λ ν δ. (and-local ! 6 refl (and-local ! 16 refl (and-local ! 15 refl (and-local ! 12 refl (no-more !)))))) (λ _ e18.
+          land-in ! 8 refl (tt, tt) $
           forget ! 8 refl $
           forget ! 7 refl $
           forget ! 6 refl $
@@ -380,14 +378,13 @@ module _ {M : Type 1} (𝓤 : URA M) (H : Heap 𝓤) (A : Atoms 𝓤) (W : Given
       part-2 : (g7 : Is u64 i (uint-vals w64 i)) → (g8 : Is Ll.the-row lid (valsLl lid)) → (g9 : Is Pi.the-row (m .proposer) (valsPi (m .proposer))) → Sq W (‵ (Slice Le.the-row κ₀ γ₀ b₀ o₀ n₀ ls) ∷ ‵ (flft κ₀ q₀) ∷ ‵ (Slice Ms.the-row κ₁ γ₁ b₁ o₁ n₁ t) ∷ ‵ (flft κ₁ q₁)
           ∷ ‵ (froom (sliceTy (tyRef erased mut (pointee (Ms.the-row .written)))) l₂₀ 0) ∷ ‵ (froom (tyRef erased mut (pointee (Ms.the-row .written))) l₁₉ 0) ∷ ‵ (froom (sliceTy (tyRef erased mut (pointee (Le.the-row .written)))) l₁₈ 0) ∷ ‵ (froom (tyRef erased mut (pointee (Le.the-row .written))) l₁₇ 0) ∷ ‵ (froom tyUnit l₁₆ 0) ∷ ‵ (froom (sliceTy (tyRef erased imm (pointee (Le.the-row .written)))) l₁₅ 0) ∷ ‵ (froom (tyRef erased imm (pointee (Le.the-row .written))) l₁₄ 0) ∷ ‵ (froom Ms′.mir l₁₃ 0) ∷ ‵ (froom Ea′.mir l₁₂ 0) ∷ ‵ (froom Li′.mir l₁₁ 0) ∷ ‵ (froom Ea′.mir l₁₀ 0) ∷ ‵ (fat fullShare Pi′.mir l₉ 0 (valPi (m .proposer))) ∷ ‵ (fat fullShare Ll′.mir l₈ 0 (valLl lid)) ∷ ‵ (fat fullShare word l₇ 0 (vint w64 i)) ∷ ‵ (fat fullShare Ms′.mir l₆ 0 (valMs m)) ∷ ‵ (fat fullShare word l₅ 0 (vint w64 k)) ∷ ‵ (fat fullShare Ev′.mir l₄ 0 (valEv e)) ∷ ‵ (fat fullShare (sliceTy (tyRef (named 1) mut (pointee (Ms.the-row .written)))) l₃ 0 s₁) ∷ ‵ (fat fullShare (sliceTy (tyRef (named 0) mut (pointee (Le.the-row .written)))) l₂ 0 s₀) ∷ ‵ (fat fullShare Sz′.mir l₁ 0 (valSz z)) ∷ ‵ (froom An′.mir l₀ 0) ∷ Dies ∷ []) (runs C Λ En pieces.t-4 (atRet En Post))
       part-2 g7 g8 g9 =
-          assigns ! (addr ! (from ! (fld ! refl (hop ! (look-in ! 22 (sub ! 0 refl (whole !))) (stop !))))) (from ! (stop !)) (init ! 10 refl (tt, tt)) $
-          assigns ! (agg ! (and-then ! (reads ! (from ! (stop !)) (look ! 10 refl)) (and-then ! (reads ! (from ! (fld ! refl (stop !))) (look-in ! 22 (sub ! 1 refl (whole !)))) (no-more !)))) (from ! (stop !)) (init ! 9 refl (tt, (tt, (record { fits = room₀ .0 }, tt)))) $
+          lends-again ! 22 10 9 refl refl refl refl (tt, tt) refl refl (tt, (tt, (record { fits = room₀ .0 }, tt))) refl $
           calls-shared ! fm Le.the-row (plain (λ _. Ll.the-row) ∷ plain (λ _. Pi.the-row) ∷ []) Ea.the-row (yes, (yes, tt)) valEa (LL.tells Ea.the-type Ea′.the-laws) b₀ o₀ n₀ ls refl (λ ν. (valsLl, (valsPi, tt))) (λ ν. (makesLl, (makesPi, tt))) (λ ν. (lid, ((m .proposer), tt))) (λ ν. (g8, (g9, tt)))
-          (load-ear.clauses 𝓤 H A mem run) known-load-ear x (λ ν δ. tt) (λ ν δ. factI 𝓤 _ (emp 𝓤) in-l) (λ ν δ r e′. id⊢ 𝓤 (fact 𝓤 (r ≡ x))) (λ ν δ. (and-then ! (reads ! (from ! (stop !)) (look ! 12 refl)) (and-then ! (reads ! (from ! (stop !)) (look ! 19 refl)) (and-then ! (reads ! (from ! (stop !)) (look ! 18 refl)) (no-more !))))) (λ g10.
-          land ! (from ! (stop !)) (init ! 14 refl (typedEa x g10)) $
+          (load-ear.clauses 𝓤 H A mem run) known-load-ear x (λ ν δ. tt) (λ ν δ. factI 𝓤 _ (emp 𝓤) in-l) (λ ν δ r e′. id⊢ 𝓤 (fact 𝓤 (r ≡ x))) (λ ν δ. (and-local ! 12 refl (and-local ! 19 refl (and-local ! 18 refl (no-more !))))) (λ g10.
+          land-in ! 14 refl (typedEa x g10) $
           calls-value ! fm (arms-listen.signature .params) Li.the-row (arms-listen.ended .kept) (arms-listen.clauses 𝓤 H A mem run) known-arms-listen (valsSz, (valsEv, (valsMs, (valsEa, tt)))) (makesSz, (makesEv, (makesMs, (makesEa, tt)))) valLi (LL.tells Li.the-type Li′.the-laws)
-          (z, (e, (m, (x, tt)))) (gz, (ge, (gm, (g10, tt)))) tt (id⊢ 𝓤 (emp 𝓤)) y (λ r e′. fact-mono 𝓤 (r ≡ heardIn z e m x) (r ≡ y) (λ p. p ∙ heard-in z e m x (fit .1 .1 .0) (fit .0))) (and-then ! (reads ! (from ! (stop !)) (look ! 24 refl)) (and-then ! (reads ! (from ! (stop !)) (look ! 21 refl)) (and-then ! (reads ! (from ! (stop !)) (look ! 19 refl)) (and-then ! (reads ! (from ! (stop !)) (look ! 15 refl)) (no-more !))))) (λ g11.
-          land ! (from ! (stop !)) (init ! 13 refl (typedLi y g11)) $
+          (z, (e, (m, (x, tt)))) (gz, (ge, (gm, (g10, tt)))) tt (id⊢ 𝓤 (emp 𝓤)) y (λ r e′. fact-mono 𝓤 (r ≡ heardIn z e m x) (r ≡ y) (λ p. p ∙ heard-in z e m x (fit .1 .1 .0) (fit .0))) (and-local ! 24 refl (and-local ! 21 refl (and-local ! 19 refl (and-local ! 15 refl (no-more !))))) (λ g11.
+          land-in ! 13 refl (typedLi y g11) $
           forget ! 10 refl $
           forget ! 9 refl $
           part-3 g7 g8 g9 g10 g11))
@@ -396,24 +393,24 @@ module _ {M : Type 1} (𝓤 : URA M) (H : Heap 𝓤) (A : Atoms 𝓤) (W : Given
           ∷ ‵ (froom (sliceTy (tyRef erased mut (pointee (Ms.the-row .written)))) l₂₀ 0) ∷ ‵ (froom (tyRef erased mut (pointee (Ms.the-row .written))) l₁₉ 0) ∷ ‵ (froom (sliceTy (tyRef erased mut (pointee (Le.the-row .written)))) l₁₈ 0) ∷ ‵ (froom (tyRef erased mut (pointee (Le.the-row .written))) l₁₇ 0) ∷ ‵ (froom tyUnit l₁₆ 0) ∷ ‵ (froom (sliceTy (tyRef erased imm (pointee (Le.the-row .written)))) l₁₅ 0) ∷ ‵ (froom (tyRef erased imm (pointee (Le.the-row .written))) l₁₄ 0) ∷ ‵ (froom Ms′.mir l₁₃ 0) ∷ ‵ (froom Ea′.mir l₁₂ 0) ∷ ‵ (froom Li′.mir l₁₁ 0) ∷ ‵ (froom Ea′.mir l₁₀ 0) ∷ ‵ (froom Pi′.mir l₉ 0) ∷ ‵ (froom Ll′.mir l₈ 0) ∷ ‵ (froom word l₇ 0) ∷ ‵ (fat fullShare Ms′.mir l₆ 0 (valMs m)) ∷ ‵ (fat fullShare word l₅ 0 (vint w64 k)) ∷ ‵ (fat fullShare Ev′.mir l₄ 0 (valEv e)) ∷ ‵ (fat fullShare (sliceTy (tyRef (named 1) mut (pointee (Ms.the-row .written)))) l₃ 0 s₁) ∷ ‵ (fat fullShare (sliceTy (tyRef (named 0) mut (pointee (Le.the-row .written)))) l₂ 0 s₀) ∷ ‵ (fat fullShare Sz′.mir l₁ 0 (valSz z)) ∷ ‵ (froom An′.mir l₀ 0) ∷ Dies ∷ []) (runs C Λ En pieces.t-1 (atRet En Post))
       part-1 =
           calls-value ! fm (party-of.signature .params) u64 (party-of.ended .kept) (party-of.clauses 𝓤 H A mem run) known-party-of (valsEv, (valsMs, tt)) (makesEv, (makesMs, tt)) (vint w64) (uint-tells w64)
-          (e, (m, tt)) (ge, (gm, tt)) tt (id⊢ 𝓤 (emp 𝓤)) i (λ r e′. id⊢ 𝓤 (fact 𝓤 (r ≡ i))) (and-then ! (reads ! (from ! (stop !)) (look ! 21 refl)) (and-then ! (reads ! (from ! (stop !)) (look ! 19 refl)) (no-more !))) (λ g7.
-          land ! (from ! (stop !)) (init ! 17 refl (tt, record { fits = g7 .1 })) $
+          (e, (m, tt)) (ge, (gm, tt)) tt (id⊢ 𝓤 (emp 𝓤)) i (λ r e′. id⊢ 𝓤 (fact 𝓤 (r ≡ i))) (and-local ! 21 refl (and-local ! 19 refl (no-more !))) (λ g7.
+          land-in ! 17 refl (tt, record { fits = g7 .1 }) $
           calls-value ! fm (learner-at.signature .params) Ll.the-row (learner-at.ended .kept) (learner-at.clauses 𝓤 H A mem run) known-learner-at (valsSz, (uint-vals w64, tt)) (makesSz, (uint-makes 𝓤 H A W w64, tt)) valLl (LL.tells Ll.the-type Ll′.the-laws)
-          (z, (i, tt)) (gz, (g7, tt)) tt (factI 𝓤 _ (emp 𝓤) (fit .1 .1 .0)) lid (λ r e′. id⊢ 𝓤 (fact 𝓤 (r ≡ lid))) (and-then ! (reads ! (from ! (stop !)) (look ! 24 refl)) (and-then ! (reads ! (from ! (stop !)) (look ! 18 refl)) (no-more !))) (λ g8.
-          land ! (from ! (stop !)) (init ! 16 refl (typedLl lid g8)) $
+          (z, (i, tt)) (gz, (g7, tt)) tt (factI 𝓤 _ (emp 𝓤) (fit .1 .1 .0)) lid (λ r e′. id⊢ 𝓤 (fact 𝓤 (r ≡ lid))) (and-local ! 24 refl (and-local ! 18 refl (no-more !))) (λ g8.
+          land-in ! 16 refl (typedLl lid g8) $
           calls-value ! fm (proposer-of.signature .params) Pi.the-row (proposer-of.ended .kept) (proposer-of.clauses 𝓤 H A mem run) known-proposer-of (valsMs, tt) (makesMs, tt) valPi (LL.tells Pi.the-type Pi′.the-laws)
-          (m, tt) (gm, tt) tt (id⊢ 𝓤 (emp 𝓤)) (m .proposer) (λ r e′. id⊢ 𝓤 (fact 𝓤 (r ≡ (m .proposer)))) (and-then ! (reads ! (from ! (stop !)) (look ! 19 refl)) (no-more !)) (λ g9.
-          land ! (from ! (stop !)) (init ! 15 refl (typedPi (m .proposer) g9)) $
+          (m, tt) (gm, tt) tt (id⊢ 𝓤 (emp 𝓤)) (m .proposer) (λ r e′. id⊢ 𝓤 (fact 𝓤 (r ≡ (m .proposer)))) (and-local ! 19 refl (no-more !)) (λ g9.
+          land-in ! 15 refl (typedPi (m .proposer) g9) $
           part-2 g7 g8 g9)))
 
     walk : ent 𝓤 (onEntry 𝓤 H A this.signature (κ₀, (κ₁, tt)) (q₀, (q₁, tt)) (z, (listAt Le.the-row b₀ o₀ ls γ₀, (listAt Ms.the-row b₁ o₁ t γ₁, (e, (k, (m, tt)))))) at) (WpFn 𝓤 H C Λ code.function (valSz z ∷ s₀ ∷ s₁ ∷ valEv e ∷ vint w64 k ∷ valMs m ∷ []) Post)
     walk =
         qed W ((‵ (flft κ₀ q₀) ⊛ ‵ (flft κ₁ q₁) ⊛ ‵ ftrue) ∷ ‵ (owns (Sz.the-row ∷ MutSlice (named 0) κ₀ Le.the-row ∷ MutSlice (named 1) κ₁ Ms.the-row ∷ Ev.the-row ∷ usize ∷ Ms.the-row ∷ []) (z, (listAt Le.the-row b₀ o₀ ls γ₀, (listAt Ms.the-row b₁ o₁ t γ₁, (e, (k, (m, tt)))))) at) ∷ []) ∵ enter ! C Λ code.function (valSz z ∷ s₀ ∷ s₁ ∷ valEv e ∷ vint w64 k ∷ valMs m ∷ []) _ $
-        alloc1 ! (λ l₀. alloc1 ! (λ l₁. alloc1 ! (λ l₂. alloc1 ! (λ l₃. alloc1 ! (λ l₄. alloc1 ! (λ l₅. alloc1 ! (λ l₆. alloc1 ! (λ l₇. alloc1 ! (λ l₈. alloc1 ! (λ l₉. alloc1 ! (λ l₁₀. alloc1 ! (λ l₁₁. alloc1 ! (λ l₁₂. alloc1 ! (λ l₁₃. alloc1 ! (λ l₁₄. alloc1 ! (λ l₁₅. alloc1 ! (λ l₁₆. alloc1 ! (λ l₁₇. alloc1 ! (λ l₁₈. alloc1 ! (λ l₁₉. alloc1 ! (λ l₂₀. alloc0 ! $ dies-apart ! 21 $ params1 ! $
+        allocates ! (λ l₀ l₁ l₂ l₃ l₄ l₅ l₆ l₇ l₈ l₉ l₁₀ l₁₁ l₁₂ l₁₃ l₁₄ l₁₅ l₁₆ l₁₇ l₁₈ l₁₉ l₂₀. params1 ! $
         pass1 ! (init ! 20 refl (typedSz z gz)) $ pass1 ! (init ! 19 refl (tt, (tt, (record { fits = room₀ .0 }, tt)))) $ pass1 ! (init ! 18 refl (tt, (tt, (record { fits = room₁ .0 }, tt)))) $ pass1 ! (init ! 17 refl (typedEv e ge)) $ pass1 ! (init ! 16 refl (tt, record { fits = gk .1 })) $ pass1 ! (init ! 15 refl (typedMs m gm)) $ pass0 ! $
         move ! (23 ∷ []) $ fsplit ! $ move ! (1 ∷ []) $ fsplit ! $ move ! (1 ∷ []) $ fsplit ! $
         move ! (26 ∷ []) $ split ! $ move ! (1 ∷ []) $ split ! $
-        keep ! (5 ∷ 2 ∷ 3 ∷ 0 ∷ 8 ∷ 9 ∷ 10 ∷ 11 ∷ 12 ∷ 13 ∷ 14 ∷ 15 ∷ 16 ∷ 17 ∷ 18 ∷ 19 ∷ 20 ∷ 21 ∷ 22 ∷ 23 ∷ 24 ∷ 25 ∷ 26 ∷ 27 ∷ 28 ∷ 7 ∷ []) $ part-1 l₀ l₁ l₂ l₃ l₄ l₅ l₆ l₇ l₈ l₉ l₁₀ l₁₁ l₁₂ l₁₃ l₁₄ l₁₅ l₁₆ l₁₇ l₁₈ l₁₉ l₂₀)))))))))))))))))))))
+        keep ! (5 ∷ 2 ∷ 3 ∷ 0 ∷ 8 ∷ 9 ∷ 10 ∷ 11 ∷ 12 ∷ 13 ∷ 14 ∷ 15 ∷ 16 ∷ 17 ∷ 18 ∷ 19 ∷ 20 ∷ 21 ∷ 22 ∷ 23 ∷ 24 ∷ 25 ∷ 26 ∷ 27 ∷ 28 ∷ 7 ∷ []) $ part-1 l₀ l₁ l₂ l₃ l₄ l₅ l₆ l₇ l₈ l₉ l₁₀ l₁₁ l₁₂ l₁₃ l₁₄ l₁₅ l₁₆ l₁₇ l₁₈ l₁₉ l₂₀)
 
 module _ {M : Type 1} (𝓤 : URA M) (H : Heap 𝓤) (A : Atoms 𝓤) (W : Given 𝓤 H A) (mem : Memory → SProp 𝓤) (run : Routine → Fun 𝓤) (𝓣 : Tables 𝓤 H) (known-party-of : Triple 𝓤 (𝓣 .C #party-of) (Of-party-of 𝓤 H A mem run)) (known-learner-at : Triple 𝓤 (𝓣 .C #learner-at) (Of-learner-at 𝓤 H A mem run)) (known-proposer-of : Triple 𝓤 (𝓣 .C #proposer-of) (Of-proposer-of 𝓤 H A mem run)) (known-load-ear : Triple 𝓤 (𝓣 .C #load-ear) (Of-load-ear 𝓤 H A mem run)) (known-arms-listen : Triple 𝓤 (𝓣 .C #arms-listen) (Of-arms-listen 𝓤 H A mem run)) (known-ear-in : Triple 𝓤 (𝓣 .C #ear-in) (Of-ear-in 𝓤 H A mem run)) (known-store-ear : Triple 𝓤 (𝓣 .C #store-ear) (Of-store-ear 𝓤 H A mem run)) (known-slot-heard : Triple 𝓤 (𝓣 .C #slot-heard) (Of-slot-heard 𝓤 H A mem run)) (known-store-message : Triple 𝓤 (𝓣 .C #store-message) (Of-store-message 𝓤 H A mem run)) (known-said-in : Triple 𝓤 (𝓣 .C #said-in) (Of-said-in 𝓤 H A mem run)) where
   f-walks : Walks 𝓤 H A this.ended stayed (WpFn 𝓤 H (𝓣 .C) (𝓣 .Λ) code.function) (this.clauses 𝓤 H A mem run)

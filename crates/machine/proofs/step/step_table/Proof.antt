@@ -18,8 +18,7 @@ use ghost.Atoms.{Atoms}
 use contract.Monad.{Fun, fact, factI, fact-mono}
 use contract.Running.{givenOf, tables, tablesOf}
 use types.Kit.{Given, Item, ‵, _⊛_, ⋆, runs, atRet, Sq, _$_, _∵_, !, qed, by, move, keep, split, join, fsplit, fjoin, suffices, frame, done}
-use types.Part.{agg, whole, sub, look-in}
-use types.Run.{look, init, forget, stop, hop, fld, from, load as reads, addr, and-then, no-more, assigns, land, returns, enter, alloc1, alloc0, params1, pass1, pass0}
+use types.Run.{look, init, forget, no-more, returns, enter, params1, pass1, pass0}
 use sound.WpLaws.{FmC, fmOf, WpFn-mono}
 use denote.RattleType.{owns}
 use denote.Laws.{Is, Makes}
@@ -46,7 +45,8 @@ use Rattle.decisions.specs.Arms.{armOf, decideOf, finishOf, decidedIn, toldIn, 
 use Rattle.machine.specs.Stepping.{indexIn, partyOf}
 use Rattle.machine.specs.Roles.{proposerAt, acceptorAt, decisionAt, finishedAt, stepAt, OfTable}
 use Rattle.model.specs.Records.{freshProposer, freshAcceptor, freshLearner}
-use Rattle.machine.proofs.Frees.{full, bare, dies-apart, frees-all}
+use Rattle.machine.proofs.Frees.{full, bare, allocates, frees-all}
+use Rattle.machine.proofs.Moves.{and-local, land-in, lends-again}
 use Rattle.machine.proofs.Relending.{Slice, listAt}
 use Rattle.machine.proofs.CallsByValue.{calls-value}
 use Rattle.machine.proofs.CallsLending.{calls-shared, calls-lent}
@@ -292,8 +292,8 @@ module _ {M : Type 1} (𝓤 : URA M) (H : Heap 𝓤) (A : Atoms 𝓤) (W : Given
           ∷ ‵ (froom (sliceTy (tyRef erased mut (pointee (Ms.the-row .written)))) l₁₈ 0) ∷ ‵ (froom (tyRef erased mut (pointee (Ms.the-row .written))) l₁₇ 0) ∷ ‵ (froom (sliceTy (tyRef erased mut (pointee (Ms.the-row .written)))) l₁₆ 0) ∷ ‵ (froom (tyRef erased mut (pointee (Ms.the-row .written))) l₁₅ 0) ∷ ‵ (froom tyUnit l₁₄ 0) ∷ ‵ (froom (sliceTy (tyRef erased imm (pointee (Ms.the-row .written)))) l₁₃ 0) ∷ ‵ (froom (tyRef erased imm (pointee (Ms.the-row .written))) l₁₂ 0) ∷ ‵ (fat fullShare Sd′.mir l₁₁ 0 (valSd (f .change .send))) ∷ ‵ (fat fullShare Ms′.mir l₁₀ 0 (valMs m′)) ∷ ‵ (fat fullShare Dn′.mir l₉ 0 (valDn f)) ∷ ‵ (fat fullShare byte l₈ 0 (vint w8 (lacking (d .need) t))) ∷ ‵ (fat fullShare byte l₇ 0 (vint w8 (d .need))) ∷ ‵ (fat fullShare Dn′.mir l₆ 0 (valDn d)) ∷ ‵ (fat fullShare Ms′.mir l₅ 0 (valMs m)) ∷ ‵ (fat fullShare word l₄ 0 (vint w64 k)) ∷ ‵ (fat fullShare Ev′.mir l₃ 0 (valEv e)) ∷ ‵ (fat fullShare (sliceTy (tyRef (named 0) mut (pointee (Ms.the-row .written)))) l₂ 0 s₀) ∷ ‵ (fat fullShare Sz′.mir l₁ 0 (valSz z)) ∷ ‵ (froom An′.mir l₀ 0) ∷ Dies ∷ []) (runs C Λ En pieces.t-15 (atRet En Post))
       part-5 g6 g7 g8 g9 g10 g11 e18 =
           calls-value ! fm (arms-reply.signature .params) An.the-row (arms-reply.ended .kept) (arms-reply.clauses 𝓤 H A mem run) known-arms-reply (valsEv, (valsDn, tt)) (makesEv, (makesDn, tt)) valAn (EL.tells An.the-type An′.the-laws)
-          (e, (f, tt)) (ge, (g9, tt)) tt (id⊢ 𝓤 (emp 𝓤)) r₀ (λ r e′. id⊢ 𝓤 (fact 𝓤 (r ≡ r₀))) (and-then ! (reads ! (from ! (stop !)) (look ! 18 refl)) (and-then ! (reads ! (from ! (stop !)) (look ! 12 refl)) (no-more !))) (λ g0.
-          land ! (from ! (stop !)) (init ! 20 refl (typedAn r₀ g0)) $
+          (e, (f, tt)) (ge, (g9, tt)) tt (id⊢ 𝓤 (emp 𝓤)) r₀ (λ r e′. id⊢ 𝓤 (fact 𝓤 (r ≡ r₀))) (and-local ! 18 refl (and-local ! 12 refl (no-more !))) (λ g0.
+          land-in ! 20 refl (typedAn r₀ g0) $
           returns ! (look ! 20 refl) $ frees-all ! 2 (bare _ _ ∷ bare _ _ ∷ bare _ _ ∷ bare _ _ ∷ bare _ _ ∷ bare _ _ ∷ bare _ _ ∷ full _ _ _ ∷ full _ _ _ ∷ full _ _ _ ∷ full _ _ _ ∷ full _ _ _ ∷ full _ _ _ ∷ full _ _ _ ∷ full _ _ _ ∷ full _ _ _ ∷ full _ _ _ ∷ full _ _ _ ∷ full _ _ _ ∷ []) refl refl $
           keep ! (0 ∷ 1 ∷ []) $ by ! (exits g0 e18))
 
@@ -301,13 +301,12 @@ module _ {M : Type 1} (𝓤 : URA M) (H : Heap 𝓤) (A : Atoms 𝓤) (W : Given
           ∷ ‵ (froom (sliceTy (tyRef erased mut (pointee (Ms.the-row .written)))) l₁₈ 0) ∷ ‵ (froom (tyRef erased mut (pointee (Ms.the-row .written))) l₁₇ 0) ∷ ‵ (froom (sliceTy (tyRef erased mut (pointee (Ms.the-row .written)))) l₁₆ 0) ∷ ‵ (froom (tyRef erased mut (pointee (Ms.the-row .written))) l₁₅ 0) ∷ ‵ (froom tyUnit l₁₄ 0) ∷ ‵ (froom (sliceTy (tyRef erased imm (pointee (Ms.the-row .written)))) l₁₃ 0) ∷ ‵ (froom (tyRef erased imm (pointee (Ms.the-row .written))) l₁₂ 0) ∷ ‵ (froom Sd′.mir l₁₁ 0) ∷ ‵ (fat fullShare Ms′.mir l₁₀ 0 (valMs m′)) ∷ ‵ (fat fullShare Dn′.mir l₉ 0 (valDn f)) ∷ ‵ (fat fullShare byte l₈ 0 (vint w8 (lacking (d .need) t))) ∷ ‵ (fat fullShare byte l₇ 0 (vint w8 (d .need))) ∷ ‵ (fat fullShare Dn′.mir l₆ 0 (valDn d)) ∷ ‵ (fat fullShare Ms′.mir l₅ 0 (valMs m)) ∷ ‵ (fat fullShare word l₄ 0 (vint w64 k)) ∷ ‵ (fat fullShare Ev′.mir l₃ 0 (valEv e)) ∷ ‵ (fat fullShare (sliceTy (tyRef (named 0) mut (pointee (Ms.the-row .written)))) l₂ 0 s₀) ∷ ‵ (fat fullShare Sz′.mir l₁ 0 (valSz z)) ∷ ‵ (froom An′.mir l₀ 0) ∷ Dies ∷ []) (runs C Λ En pieces.t-11 (atRet En Post))
       part-4 g6 g7 g8 g9 g10 e16 =
           calls-value ! fm (send-in.signature .params) Sd.the-row (send-in.ended .kept) (send-in.clauses 𝓤 H A mem run) known-send-in (valsDn, tt) (makesDn, tt) valSd (LL.tells Sd.the-type Sd′.the-laws)
-          (f, tt) (g9, tt) tt (id⊢ 𝓤 (emp 𝓤)) (f .change .send) (λ r e′. id⊢ 𝓤 (fact 𝓤 (r ≡ (f .change .send)))) (and-then ! (reads ! (from ! (stop !)) (look ! 12 refl)) (no-more !)) (λ g11.
-          land ! (from ! (stop !)) (init ! 9 refl (typedSd (f .change .send) g11)) $
-          assigns ! (addr ! (from ! (fld ! refl (hop ! (look-in ! 18 (sub ! 0 refl (whole !))) (stop !))))) (from ! (stop !)) (init ! 3 refl (tt, tt)) $
-          assigns ! (agg ! (and-then ! (reads ! (from ! (stop !)) (look ! 3 refl)) (and-then ! (reads ! (from ! (fld ! refl (stop !))) (look-in ! 18 (sub ! 1 refl (whole !)))) (no-more !)))) (from ! (stop !)) (init ! 2 refl (tt, (tt, (record { fits = room₀ .0 }, tt)))) $
+          (f, tt) (g9, tt) tt (id⊢ 𝓤 (emp 𝓤)) (f .change .send) (λ r e′. id⊢ 𝓤 (fact 𝓤 (r ≡ (f .change .send)))) (and-local ! 12 refl (no-more !)) (λ g11.
+          land-in ! 9 refl (typedSd (f .change .send) g11) $
+          lends-again ! 18 3 2 refl refl refl refl (tt, tt) refl refl (tt, (tt, (record { fits = room₀ .0 }, tt))) refl $
           calls-lent ! fm Ms.the-row (plain (λ _. Sd.the-row) ∷ []) Nothing (yes, tt) (λ _. vunit) nothing-tells b₀ o₀ n₀ t₁ e16 (λ ν. (valsSd, tt)) (λ ν. (makesSd, tt)) (λ ν. ((f .change .send), tt)) (λ ν. (g11, tt))
-          (send-all.clauses 𝓤 H A mem run) known-send-all room₀ tt t′ (λ ν δ. tt) (λ ν δ. factI 𝓤 _ (emp 𝓤) ready) (λ ν δ r ws. fact-mono 𝓤 (ws .0 ≡ t′) ((r ≡ tt) × (ws .0 ≡ t′)) (λ e′. (refl, e′))) (λ ν δ. (and-then ! (reads ! (from ! (stop !)) (look ! 2 refl)) (and-then ! (reads ! (from ! (stop !)) (look ! 9 refl)) (no-more !)))) (λ _ e18.
-          land ! (from ! (stop !)) (init ! 6 refl (tt, tt)) $
+          (send-all.clauses 𝓤 H A mem run) known-send-all room₀ tt t′ (λ ν δ. tt) (λ ν δ. factI 𝓤 _ (emp 𝓤) ready) (λ ν δ r ws. fact-mono 𝓤 (ws .0 ≡ t′) ((r ≡ tt) × (ws .0 ≡ t′)) (λ e′. (refl, e′))) (λ ν δ. (and-local ! 2 refl (and-local ! 9 refl (no-more !)))) (λ _ e18.
+          land-in ! 6 refl (tt, tt) $
           forget ! 6 refl $
           forget ! 3 refl $
           forget ! 2 refl $
@@ -317,13 +316,12 @@ module _ {M : Type 1} (𝓤 : URA M) (H : Heap 𝓤) (A : Atoms 𝓤) (W : Given
           ∷ ‵ (froom (sliceTy (tyRef erased mut (pointee (Ms.the-row .written)))) l₁₈ 0) ∷ ‵ (froom (tyRef erased mut (pointee (Ms.the-row .written))) l₁₇ 0) ∷ ‵ (froom (sliceTy (tyRef erased mut (pointee (Ms.the-row .written)))) l₁₆ 0) ∷ ‵ (froom (tyRef erased mut (pointee (Ms.the-row .written))) l₁₅ 0) ∷ ‵ (froom tyUnit l₁₄ 0) ∷ ‵ (froom (sliceTy (tyRef erased imm (pointee (Ms.the-row .written)))) l₁₃ 0) ∷ ‵ (froom (tyRef erased imm (pointee (Ms.the-row .written))) l₁₂ 0) ∷ ‵ (froom Sd′.mir l₁₁ 0) ∷ ‵ (froom Ms′.mir l₁₀ 0) ∷ ‵ (fat fullShare Dn′.mir l₉ 0 (valDn f)) ∷ ‵ (fat fullShare byte l₈ 0 (vint w8 (lacking (d .need) t))) ∷ ‵ (fat fullShare byte l₇ 0 (vint w8 (d .need))) ∷ ‵ (fat fullShare Dn′.mir l₆ 0 (valDn d)) ∷ ‵ (fat fullShare Ms′.mir l₅ 0 (valMs m)) ∷ ‵ (fat fullShare word l₄ 0 (vint w64 k)) ∷ ‵ (fat fullShare Ev′.mir l₃ 0 (valEv e)) ∷ ‵ (fat fullShare (sliceTy (tyRef (named 0) mut (pointee (Ms.the-row .written)))) l₂ 0 s₀) ∷ ‵ (fat fullShare Sz′.mir l₁ 0 (valSz z)) ∷ ‵ (froom An′.mir l₀ 0) ∷ Dies ∷ []) (runs C Λ En pieces.t-7 (atRet En Post))
       part-3 g6 g7 g8 g9 =
           calls-value ! fm (slot-in.signature .params) Ms.the-row (slot-in.ended .kept) (slot-in.clauses 𝓤 H A mem run) known-slot-in (valsDn, (valsMs, tt)) (makesDn, (makesMs, tt)) valMs (LL.tells Ms.the-type Ms′.the-laws)
-          (f, (m, tt)) (g9, (gm, tt)) tt (id⊢ 𝓤 (emp 𝓤)) m′ (λ r e′. id⊢ 𝓤 (fact 𝓤 (r ≡ m′))) (and-then ! (reads ! (from ! (stop !)) (look ! 12 refl)) (and-then ! (reads ! (from ! (stop !)) (look ! 16 refl)) (no-more !))) (λ g10.
-          land ! (from ! (stop !)) (init ! 10 refl (typedMs m′ g10)) $
-          assigns ! (addr ! (from ! (fld ! refl (hop ! (look-in ! 18 (sub ! 0 refl (whole !))) (stop !))))) (from ! (stop !)) (init ! 5 refl (tt, tt)) $
-          assigns ! (agg ! (and-then ! (reads ! (from ! (stop !)) (look ! 5 refl)) (and-then ! (reads ! (from ! (fld ! refl (stop !))) (look-in ! 18 (sub ! 1 refl (whole !)))) (no-more !)))) (from ! (stop !)) (init ! 4 refl (tt, (tt, (record { fits = room₀ .0 }, tt)))) $
+          (f, (m, tt)) (g9, (gm, tt)) tt (id⊢ 𝓤 (emp 𝓤)) m′ (λ r e′. id⊢ 𝓤 (fact 𝓤 (r ≡ m′))) (and-local ! 12 refl (and-local ! 16 refl (no-more !))) (λ g10.
+          land-in ! 10 refl (typedMs m′ g10) $
+          lends-again ! 18 5 4 refl refl refl refl (tt, tt) refl refl (tt, (tt, (record { fits = room₀ .0 }, tt))) refl $
           calls-lent ! fm Ms.the-row (plain (λ _. usize) ∷ plain (λ _. Ms.the-row) ∷ []) Nothing (yes, (yes, tt)) (λ _. vunit) nothing-tells b₀ o₀ n₀ t refl (λ ν. (uint-vals w64, (valsMs, tt))) (λ ν. (uint-makes 𝓤 H A W w64, (makesMs, tt))) (λ ν. (k, (m′, tt))) (λ ν. (gk, (g10, tt)))
-          (store-message.clauses 𝓤 H A mem run) known-store-message room₀ tt t₁ (λ ν δ. tt) (λ ν δ. factI 𝓤 _ (emp 𝓤) in-k) (λ ν δ r ws. fact-mono 𝓤 (ws .0 ≡ t₁) ((r ≡ tt) × (ws .0 ≡ t₁)) (λ e′. (refl, e′))) (λ ν δ. (and-then ! (reads ! (from ! (stop !)) (look ! 4 refl)) (and-then ! (reads ! (from ! (stop !)) (look ! 16 refl)) (and-then ! (reads ! (from ! (stop !)) (look ! 10 refl)) (no-more !))))) (λ _ e16.
-          land ! (from ! (stop !)) (init ! 6 refl (tt, tt)) $
+          (store-message.clauses 𝓤 H A mem run) known-store-message room₀ tt t₁ (λ ν δ. tt) (λ ν δ. factI 𝓤 _ (emp 𝓤) in-k) (λ ν δ r ws. fact-mono 𝓤 (ws .0 ≡ t₁) ((r ≡ tt) × (ws .0 ≡ t₁)) (λ e′. (refl, e′))) (λ ν δ. (and-local ! 4 refl (and-local ! 16 refl (and-local ! 10 refl (no-more !))))) (λ _ e16.
+          land-in ! 6 refl (tt, tt) $
           forget ! 6 refl $
           forget ! 5 refl $
           forget ! 4 refl $
@@ -332,14 +330,13 @@ module _ {M : Type 1} (𝓤 : URA M) (H : Heap 𝓤) (A : Atoms 𝓤) (W : Given
       part-2 : (g6 : Is Dn.the-row d (valsDn d)) → (g7 : Is u8 (d .need) (uint-vals w8 (d .need))) → Sq W (‵ (Slice Ms.the-row κ₀ γ₀ b₀ o₀ n₀ t) ∷ ‵ (flft κ₀ q₀)
           ∷ ‵ (froom (sliceTy (tyRef erased mut (pointee (Ms.the-row .written)))) l₁₈ 0) ∷ ‵ (froom (tyRef erased mut (pointee (Ms.the-row .written))) l₁₇ 0) ∷ ‵ (froom (sliceTy (tyRef erased mut (pointee (Ms.the-row .written)))) l₁₆ 0) ∷ ‵ (froom (tyRef erased mut (pointee (Ms.the-row .written))) l₁₅ 0) ∷ ‵ (froom tyUnit l₁₄ 0) ∷ ‵ (froom (sliceTy (tyRef erased imm (pointee (Ms.the-row .written)))) l₁₃ 0) ∷ ‵ (froom (tyRef erased imm (pointee (Ms.the-row .written))) l₁₂ 0) ∷ ‵ (froom Sd′.mir l₁₁ 0) ∷ ‵ (froom Ms′.mir l₁₀ 0) ∷ ‵ (froom Dn′.mir l₉ 0) ∷ ‵ (froom byte l₈ 0) ∷ ‵ (fat fullShare byte l₇ 0 (vint w8 (d .need))) ∷ ‵ (fat fullShare Dn′.mir l₆ 0 (valDn d)) ∷ ‵ (fat fullShare Ms′.mir l₅ 0 (valMs m)) ∷ ‵ (fat fullShare word l₄ 0 (vint w64 k)) ∷ ‵ (fat fullShare Ev′.mir l₃ 0 (valEv e)) ∷ ‵ (fat fullShare (sliceTy (tyRef (named 0) mut (pointee (Ms.the-row .written)))) l₂ 0 s₀) ∷ ‵ (fat fullShare Sz′.mir l₁ 0 (valSz z)) ∷ ‵ (froom An′.mir l₀ 0) ∷ Dies ∷ []) (runs C Λ En pieces.t-3 (atRet En Post))
       part-2 g6 g7 =
-          assigns ! (addr ! (from ! (fld ! refl (hop ! (look-in ! 18 (sub ! 0 refl (whole !))) (stop !))))) (from ! (stop !)) (init ! 8 refl (tt, tt)) $
-          assigns ! (agg ! (and-then ! (reads ! (from ! (stop !)) (look ! 8 refl)) (and-then ! (reads ! (from ! (fld ! refl (stop !))) (look-in ! 18 (sub ! 1 refl (whole !)))) (no-more !)))) (from ! (stop !)) (init ! 7 refl (tt, (tt, (record { fits = room₀ .0 }, tt)))) $
+          lends-again ! 18 8 7 refl refl refl refl (tt, tt) refl refl (tt, (tt, (record { fits = room₀ .0 }, tt))) refl $
           calls-shared ! fm Ms.the-row (plain (λ _. u8) ∷ []) u8 (yes, tt) (vint w8) (uint-tells w8) b₀ o₀ n₀ t refl (λ ν. (uint-vals w8, tt)) (λ ν. (uint-makes 𝓤 H A W w8, tt)) (λ ν. ((d .need), tt)) (λ ν. (g7, tt))
-          (room.clauses 𝓤 H A mem run) known-room (lacking (d .need) t) (λ ν δ. tt) (λ ν δ. id⊢ 𝓤 (emp 𝓤)) (λ ν δ r e′. id⊢ 𝓤 (fact 𝓤 (r ≡ (lacking (d .need) t)))) (λ ν δ. (and-then ! (reads ! (from ! (stop !)) (look ! 10 refl)) (and-then ! (reads ! (from ! (stop !)) (look ! 16 refl)) (no-more !)))) (λ g8.
-          land ! (from ! (stop !)) (init ! 12 refl (tt, record { fits = g8 .1 })) $
+          (room.clauses 𝓤 H A mem run) known-room (lacking (d .need) t) (λ ν δ. tt) (λ ν δ. id⊢ 𝓤 (emp 𝓤)) (λ ν δ r e′. id⊢ 𝓤 (fact 𝓤 (r ≡ (lacking (d .need) t)))) (λ ν δ. (and-local ! 10 refl (and-local ! 16 refl (no-more !)))) (λ g8.
+          land-in ! 12 refl (tt, record { fits = g8 .1 }) $
           calls-value ! fm (finish-table.signature .params) Dn.the-row (finish-table.ended .kept) (finish-table.clauses 𝓤 H A mem run) known-finish-table (valsDn, (uint-vals w8, tt)) (makesDn, (uint-makes 𝓤 H A W w8, tt)) valDn (LL.tells Dn.the-type Dn′.the-laws)
-          (d, ((lacking (d .need) t), tt)) (g6, (g8, tt)) tt (id⊢ 𝓤 (emp 𝓤)) f (λ r e′. id⊢ 𝓤 (fact 𝓤 (r ≡ f))) (and-then ! (reads ! (from ! (stop !)) (look ! 15 refl)) (and-then ! (reads ! (from ! (stop !)) (look ! 13 refl)) (no-more !))) (λ g9.
-          land ! (from ! (stop !)) (init ! 11 refl (typedDn f g9)) $
+          (d, ((lacking (d .need) t), tt)) (g6, (g8, tt)) tt (id⊢ 𝓤 (emp 𝓤)) f (λ r e′. id⊢ 𝓤 (fact 𝓤 (r ≡ f))) (and-local ! 15 refl (and-local ! 13 refl (no-more !))) (λ g9.
+          land-in ! 11 refl (typedDn f g9) $
           forget ! 8 refl $
           forget ! 7 refl $
           part-3 g6 g7 g8 g9))
@@ -348,21 +345,21 @@ module _ {M : Type 1} (𝓤 : URA M) (H : Heap 𝓤) (A : Atoms 𝓤) (W : Given
           ∷ ‵ (froom (sliceTy (tyRef erased mut (pointee (Ms.the-row .written)))) l₁₈ 0) ∷ ‵ (froom (tyRef erased mut (pointee (Ms.the-row .written))) l₁₇ 0) ∷ ‵ (froom (sliceTy (tyRef erased mut (pointee (Ms.the-row .written)))) l₁₆ 0) ∷ ‵ (froom (tyRef erased mut (pointee (Ms.the-row .written))) l₁₅ 0) ∷ ‵ (froom tyUnit l₁₄ 0) ∷ ‵ (froom (sliceTy (tyRef erased imm (pointee (Ms.the-row .written)))) l₁₃ 0) ∷ ‵ (froom (tyRef erased imm (pointee (Ms.the-row .written))) l₁₂ 0) ∷ ‵ (froom Sd′.mir l₁₁ 0) ∷ ‵ (froom Ms′.mir l₁₀ 0) ∷ ‵ (froom Dn′.mir l₉ 0) ∷ ‵ (froom byte l₈ 0) ∷ ‵ (froom byte l₇ 0) ∷ ‵ (froom Dn′.mir l₆ 0) ∷ ‵ (fat fullShare Ms′.mir l₅ 0 (valMs m)) ∷ ‵ (fat fullShare word l₄ 0 (vint w64 k)) ∷ ‵ (fat fullShare Ev′.mir l₃ 0 (valEv e)) ∷ ‵ (fat fullShare (sliceTy (tyRef (named 0) mut (pointee (Ms.the-row .written)))) l₂ 0 s₀) ∷ ‵ (fat fullShare Sz′.mir l₁ 0 (valSz z)) ∷ ‵ (froom An′.mir l₀ 0) ∷ Dies ∷ []) (runs C Λ En pieces.t-1 (atRet En Post))
       part-1 =
           calls-value ! fm (arms-decide-table.signature .params) Dn.the-row (arms-decide-table.ended .kept) (arms-decide-table.clauses 𝓤 H A mem run) known-arms-decide-table (valsSz, (valsEv, (valsMs, tt))) (makesSz, (makesEv, (makesMs, tt))) valDn (LL.tells Dn.the-type Dn′.the-laws)
-          (z, (e, (m, tt))) (gz, (ge, (gm, tt))) tt (id⊢ 𝓤 (emp 𝓤)) d (λ r e′. fact-mono 𝓤 (r ≡ decidedIn 0 z e m freshProposer freshAcceptor) (r ≡ d) (λ p. p ∙ decided-in 0 z e m freshProposer freshAcceptor (fit .1 .0) (fit .0))) (and-then ! (reads ! (from ! (stop !)) (look ! 20 refl)) (and-then ! (reads ! (from ! (stop !)) (look ! 18 refl)) (and-then ! (reads ! (from ! (stop !)) (look ! 16 refl)) (no-more !)))) (λ g6.
-          land ! (from ! (stop !)) (init ! 14 refl (typedDn d g6)) $
+          (z, (e, (m, tt))) (gz, (ge, (gm, tt))) tt (id⊢ 𝓤 (emp 𝓤)) d (λ r e′. fact-mono 𝓤 (r ≡ decidedIn 0 z e m freshProposer freshAcceptor) (r ≡ d) (λ p. p ∙ decided-in 0 z e m freshProposer freshAcceptor (fit .1 .0) (fit .0))) (and-local ! 20 refl (and-local ! 18 refl (and-local ! 16 refl (no-more !)))) (λ g6.
+          land-in ! 14 refl (typedDn d g6) $
           calls-value ! fm (need-in.signature .params) u8 (need-in.ended .kept) (need-in.clauses 𝓤 H A mem run) known-need-in (valsDn, tt) (makesDn, tt) (vint w8) (uint-tells w8)
-          (d, tt) (g6, tt) tt (id⊢ 𝓤 (emp 𝓤)) (d .need) (λ r e′. id⊢ 𝓤 (fact 𝓤 (r ≡ (d .need)))) (and-then ! (reads ! (from ! (stop !)) (look ! 15 refl)) (no-more !)) (λ g7.
-          land ! (from ! (stop !)) (init ! 13 refl (tt, record { fits = g7 .1 })) $
+          (d, tt) (g6, tt) tt (id⊢ 𝓤 (emp 𝓤)) (d .need) (λ r e′. id⊢ 𝓤 (fact 𝓤 (r ≡ (d .need)))) (and-local ! 15 refl (no-more !)) (λ g7.
+          land-in ! 13 refl (tt, record { fits = g7 .1 }) $
           part-2 g6 g7))
 
     walk : ent 𝓤 (onEntry 𝓤 H A this.signature (κ₀, tt) (q₀, tt) (z, (listAt Ms.the-row b₀ o₀ t γ₀, (e, (k, (m, tt))))) at) (WpFn 𝓤 H C Λ code.function (valSz z ∷ s₀ ∷ valEv e ∷ vint w64 k ∷ valMs m ∷ []) Post)
     walk =
         qed W ((‵ (flft κ₀ q₀) ⊛ ‵ ftrue) ∷ ‵ (owns (Sz.the-row ∷ MutSlice (named 0) κ₀ Ms.the-row ∷ Ev.the-row ∷ usize ∷ Ms.the-row ∷ []) (z, (listAt Ms.the-row b₀ o₀ t γ₀, (e, (k, (m, tt))))) at) ∷ []) ∵ enter ! C Λ code.function (valSz z ∷ s₀ ∷ valEv e ∷ vint w64 k ∷ valMs m ∷ []) _ $
-        alloc1 ! (λ l₀. alloc1 ! (λ l₁. alloc1 ! (λ l₂. alloc1 ! (λ l₃. alloc1 ! (λ l₄. alloc1 ! (λ l₅. alloc1 ! (λ l₆. alloc1 ! (λ l₇. alloc1 ! (λ l₈. alloc1 ! (λ l₉. alloc1 ! (λ l₁₀. alloc1 ! (λ l₁₁. alloc1 ! (λ l₁₂. alloc1 ! (λ l₁₃. alloc1 ! (λ l₁₄. alloc1 ! (λ l₁₅. alloc1 ! (λ l₁₆. alloc1 ! (λ l₁₇. alloc1 ! (λ l₁₈. alloc0 ! $ dies-apart ! 19 $ params1 ! $
+        allocates ! (λ l₀ l₁ l₂ l₃ l₄ l₅ l₆ l₇ l₈ l₉ l₁₀ l₁₁ l₁₂ l₁₃ l₁₄ l₁₅ l₁₆ l₁₇ l₁₈. params1 ! $
         pass1 ! (init ! 18 refl (typedSz z gz)) $ pass1 ! (init ! 17 refl (tt, (tt, (record { fits = room₀ .0 }, tt)))) $ pass1 ! (init ! 16 refl (typedEv e ge)) $ pass1 ! (init ! 15 refl (tt, record { fits = gk .1 })) $ pass1 ! (init ! 14 refl (typedMs m gm)) $ pass0 ! $
         move ! (21 ∷ []) $ fsplit ! $ move ! (1 ∷ []) $ fsplit ! $
         move ! (23 ∷ []) $ split ! $
-        keep ! (2 ∷ 0 ∷ 6 ∷ 7 ∷ 8 ∷ 9 ∷ 10 ∷ 11 ∷ 12 ∷ 13 ∷ 14 ∷ 15 ∷ 16 ∷ 17 ∷ 18 ∷ 19 ∷ 20 ∷ 21 ∷ 22 ∷ 23 ∷ 24 ∷ 5 ∷ []) $ part-1 l₀ l₁ l₂ l₃ l₄ l₅ l₆ l₇ l₈ l₉ l₁₀ l₁₁ l₁₂ l₁₃ l₁₄ l₁₅ l₁₆ l₁₇ l₁₈)))))))))))))))))))
+        keep ! (2 ∷ 0 ∷ 6 ∷ 7 ∷ 8 ∷ 9 ∷ 10 ∷ 11 ∷ 12 ∷ 13 ∷ 14 ∷ 15 ∷ 16 ∷ 17 ∷ 18 ∷ 19 ∷ 20 ∷ 21 ∷ 22 ∷ 23 ∷ 24 ∷ 5 ∷ []) $ part-1 l₀ l₁ l₂ l₃ l₄ l₅ l₆ l₇ l₈ l₉ l₁₀ l₁₁ l₁₂ l₁₃ l₁₄ l₁₅ l₁₆ l₁₇ l₁₈)
 
 module _ {M : Type 1} (𝓤 : URA M) (H : Heap 𝓤) (A : Atoms 𝓤) (W : Given 𝓤 H A) (mem : Memory → SProp 𝓤) (run : Routine → Fun 𝓤) (𝓣 : Tables 𝓤 H) (known-arms-decide-table : Triple 𝓤 (𝓣 .C #arms-decide-table) (Of-arms-decide-table 𝓤 H A mem run)) (known-need-in : Triple 𝓤 (𝓣 .C #need-in) (Of-need-in 𝓤 H A mem run)) (known-room : Triple 𝓤 (𝓣 .C #room) (Of-room 𝓤 H A mem run)) (known-finish-table : Triple 𝓤 (𝓣 .C #finish-table) (Of-finish-table 𝓤 H A mem run)) (known-slot-in : Triple 𝓤 (𝓣 .C #slot-in) (Of-slot-in 𝓤 H A mem run)) (known-store-message : Triple 𝓤 (𝓣 .C #store-message) (Of-store-message 𝓤 H A mem run)) (known-send-in : Triple 𝓤 (𝓣 .C #send-in) (Of-send-in 𝓤 H A mem run)) (known-send-all : Triple 𝓤 (𝓣 .C #send-all) (Of-send-all 𝓤 H A mem run)) (known-arms-reply : Triple 𝓤 (𝓣 .C #arms-reply) (Of-arms-reply 𝓤 H A mem run)) where
   f-walks : Walks 𝓤 H A this.ended stayed (WpFn 𝓤 H (𝓣 .C) (𝓣 .Λ) code.function) (this.clauses 𝓤 H A mem run)

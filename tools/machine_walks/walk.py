@@ -320,10 +320,7 @@ class Walk:
         self.known[d] = (t, v, g)
 
     def operands(self, xs, off):
-        r = '(no-more !)'
-        for x in reversed(xs):
-            r = '(and-local ! %d refl %s)' % (self.f.place(x) + off, r)
-        return r
+        return '(no-more !)' if not xs else '(locals ! %s %s)' % (listed(self.f.place(x) + off for x in xs), tuple_of(['refl'] * len(xs)))
 
     def cite(self, f):
         if f not in self.called:
@@ -487,7 +484,7 @@ use denote.Triple.Walked.{says, needs, Stays, stay-none, stay-none-slice, stay-s
 use denote.Exit.{yes}'''
 
 LAWS = '''use Rattle.machine.proofs.Frees.{full, bare, allocates, frees-all}
-use Rattle.machine.proofs.Moves.{and-local, land-in, lends-again}
+use Rattle.machine.proofs.Moves.{locals, land-in, lends-again}
 use Rattle.machine.proofs.Relending.{Slice, listAt}
 use Rattle.machine.proofs.CallsByValue.{calls-value}
 use Rattle.machine.proofs.CallsWithSlices.{passed, lent, handed, calls}

@@ -19,7 +19,7 @@ use contract.Monad.{Fun, fact, factI, fact-mono}
 use contract.Running.{givenOf, tables, tablesOf}
 use types.Kit.{Given, Item, ‵, _⊛_, ⋆, runs, atRet, Sq, _$_, _∵_, !, qed, by, move, keep, split, join, fsplit, fjoin, suffices, frame, done}
 use types.Part.{whole, sub, look-in}
-use types.Run.{look, init, forget, stop, fld, from, load as reads, of-opd, no-more, assigns, returns, enter, params1, pass1, pass0}
+use types.Run.{look, init, forget, stop, fld, from, load as reads, of-opd, assigns, returns, enter, params1, pass1, pass0}
 use sound.WpLaws.{FmC, fmOf, WpFn-mono}
 use denote.RattleType.{owns}
 use denote.Laws.{Is, Makes}
@@ -39,7 +39,7 @@ use denote.Exit.{yes}
 use Rattle.model.specs.Records.{freshProposer, freshAcceptor, freshLearner, freeSlot}
 use Rattle.machine.specs.Counting.{turnsOf, sizedNo}
 use Rattle.machine.proofs.Frees.{full, bare, allocates, frees-all}
-use Rattle.machine.proofs.Moves.{and-local, land-in, lends-again}
+use Rattle.machine.proofs.Moves.{locals, land-in, lends-again}
 use Rattle.machine.proofs.Relending.{Slice, listAt}
 use Rattle.machine.proofs.CallsByValue.{calls-value}
 use Rattle.machine.proofs.CallsLending.{calls-lent}
@@ -255,12 +255,12 @@ module _ {M : Type 1} (𝓤 : URA M) (H : Heap 𝓤) (A : Atoms 𝓤) (W : Given
           ∷ ‵ (froom (sliceTy (tyRef erased mut (pointee (Ms.the-row .written)))) l₂₃ 0) ∷ ‵ (froom (tyRef erased mut (pointee (Ms.the-row .written))) l₂₂ 0) ∷ ‵ (froom (sliceTy (tyRef erased mut (pointee (Le.the-row .written)))) l₂₁ 0) ∷ ‵ (froom (tyRef erased mut (pointee (Le.the-row .written))) l₂₀ 0) ∷ ‵ (froom (sliceTy (tyRef erased mut (pointee (Ac.the-row .written)))) l₁₉ 0) ∷ ‵ (froom (tyRef erased mut (pointee (Ac.the-row .written))) l₁₈ 0) ∷ ‵ (froom (sliceTy (tyRef erased mut (pointee (Pr.the-row .written)))) l₁₇ 0) ∷ ‵ (froom (tyRef erased mut (pointee (Pr.the-row .written))) l₁₆ 0) ∷ ‵ (froom tyUnit l₁₅ 0) ∷ ‵ (froom word l₁₄ 0) ∷ ‵ (froom word l₁₃ 0) ∷ ‵ (froom word l₁₂ 0) ∷ ‵ (froom word l₁₁ 0) ∷ ‵ (froom word l₁₀ 0) ∷ ‵ (fat fullShare word l₉ 0 (vint w64 ln)) ∷ ‵ (fat fullShare word l₈ 0 (vint w64 an)) ∷ ‵ (fat fullShare word l₇ 0 (vint w64 pn)) ∷ ‵ (fat fullShare byte l₆ 0 (vint w8 k)) ∷ ‵ (fat fullShare (sliceTy (tyRef (named 3) mut (pointee (Ms.the-row .written)))) l₅ 0 s₃) ∷ ‵ (fat fullShare (sliceTy (tyRef (named 2) mut (pointee (Le.the-row .written)))) l₄ 0 s₂) ∷ ‵ (fat fullShare (sliceTy (tyRef (named 1) mut (pointee (Ac.the-row .written)))) l₃ 0 s₁) ∷ ‵ (fat fullShare (sliceTy (tyRef (named 0) mut (pointee (Pr.the-row .written)))) l₂ 0 s₀) ∷ ‵ (fat fullShare Sz′.mir l₁ 0 (valSz z)) ∷ ‵ (froom byte l₀ 0) ∷ Dies ∷ []) (runs C Λ En pieces.t-18 (atRet En Post))
       part-5 g6 g7 g8 g9 e17 e19 e21 =
           calls-value ! fm (slots-if.signature .params) usize (slots-if.ended .kept) (slots-if.clauses 𝓤 H A mem run) known-slots-if (uint-vals w8, (valsSz, tt)) (uint-makes 𝓤 H A W w8, (makesSz, tt)) (vint w64) (uint-tells w64)
-          (k, (z, tt)) (g6, (gz, tt)) tt (id⊢ 𝓤 (emp 𝓤)) mn (λ r e′. id⊢ 𝓤 (fact 𝓤 (r ≡ mn))) (and-local ! 26 refl (and-local ! 31 refl (no-more !))) (λ g10.
+          (k, (z, tt)) (g6, (gz, tt)) tt (id⊢ 𝓤 (emp 𝓤)) mn (λ r e′. id⊢ 𝓤 (fact 𝓤 (r ≡ mn))) (locals ! (26 ∷ 31 ∷ []) (refl, (refl, tt))) (λ g10.
           land-in ! 21 refl (tt, record { fits = g10 .1 }) $
           lends-again ! 26 9 8 refl refl refl refl (tt, tt) refl refl (tt, (tt, (record { fits = room₃ .0 }, tt))) refl $
           move ! (6 ∷ 7 ∷ []) $
           calls-lent ! fm Ms.the-row (plain (λ _. usize) ∷ []) Nothing (yes, tt) (λ _. vunit) nothing-tells b₃ o₃ n₃ t refl (λ ν. (uint-vals w64, tt)) (λ ν. (uint-makes 𝓤 H A W w64, tt)) (λ ν. (mn, tt)) (λ ν. (g10, tt))
-          (fill-messages.clauses 𝓤 H A mem run) known-fill-messages room₃ tt t′ (λ ν δ. tt) (λ ν δ. factI 𝓤 _ (emp 𝓤) in-m) (λ ν δ r ws. fact-mono 𝓤 (ws .0 ≡ t′) ((r ≡ tt) × (ws .0 ≡ t′)) (λ e′. (refl, e′))) (λ ν δ. (and-local ! 8 refl (and-local ! 21 refl (no-more !)))) (λ _ e23.
+          (fill-messages.clauses 𝓤 H A mem run) known-fill-messages room₃ tt t′ (λ ν δ. tt) (λ ν δ. factI 𝓤 _ (emp 𝓤) in-m) (λ ν δ r ws. fact-mono 𝓤 (ws .0 ≡ t′) ((r ≡ tt) × (ws .0 ≡ t′)) (λ e′. (refl, e′))) (λ ν δ. (locals ! (8 ∷ 21 ∷ []) (refl, (refl, tt)))) (λ _ e23.
           land-in ! 16 refl (tt, tt) $
           forget ! 16 refl $
           forget ! 9 refl $
@@ -271,12 +271,12 @@ module _ {M : Type 1} (𝓤 : URA M) (H : Heap 𝓤) (A : Atoms 𝓤) (W : Given
           ∷ ‵ (froom (sliceTy (tyRef erased mut (pointee (Ms.the-row .written)))) l₂₃ 0) ∷ ‵ (froom (tyRef erased mut (pointee (Ms.the-row .written))) l₂₂ 0) ∷ ‵ (froom (sliceTy (tyRef erased mut (pointee (Le.the-row .written)))) l₂₁ 0) ∷ ‵ (froom (tyRef erased mut (pointee (Le.the-row .written))) l₂₀ 0) ∷ ‵ (froom (sliceTy (tyRef erased mut (pointee (Ac.the-row .written)))) l₁₉ 0) ∷ ‵ (froom (tyRef erased mut (pointee (Ac.the-row .written))) l₁₈ 0) ∷ ‵ (froom (sliceTy (tyRef erased mut (pointee (Pr.the-row .written)))) l₁₇ 0) ∷ ‵ (froom (tyRef erased mut (pointee (Pr.the-row .written))) l₁₆ 0) ∷ ‵ (froom tyUnit l₁₅ 0) ∷ ‵ (froom word l₁₄ 0) ∷ ‵ (froom word l₁₃ 0) ∷ ‵ (froom word l₁₂ 0) ∷ ‵ (froom word l₁₁ 0) ∷ ‵ (froom word l₁₀ 0) ∷ ‵ (froom word l₉ 0) ∷ ‵ (fat fullShare word l₈ 0 (vint w64 an)) ∷ ‵ (fat fullShare word l₇ 0 (vint w64 pn)) ∷ ‵ (fat fullShare byte l₆ 0 (vint w8 k)) ∷ ‵ (fat fullShare (sliceTy (tyRef (named 3) mut (pointee (Ms.the-row .written)))) l₅ 0 s₃) ∷ ‵ (fat fullShare (sliceTy (tyRef (named 2) mut (pointee (Le.the-row .written)))) l₄ 0 s₂) ∷ ‵ (fat fullShare (sliceTy (tyRef (named 1) mut (pointee (Ac.the-row .written)))) l₃ 0 s₁) ∷ ‵ (fat fullShare (sliceTy (tyRef (named 0) mut (pointee (Pr.the-row .written)))) l₂ 0 s₀) ∷ ‵ (fat fullShare Sz′.mir l₁ 0 (valSz z)) ∷ ‵ (froom byte l₀ 0) ∷ Dies ∷ []) (runs C Λ En pieces.t-14 (atRet En Post))
       part-4 g6 g7 g8 e17 e19 =
           calls-value ! fm (learners-if.signature .params) usize (learners-if.ended .kept) (learners-if.clauses 𝓤 H A mem run) known-learners-if (uint-vals w8, (valsSz, tt)) (uint-makes 𝓤 H A W w8, (makesSz, tt)) (vint w64) (uint-tells w64)
-          (k, (z, tt)) (g6, (gz, tt)) tt (id⊢ 𝓤 (emp 𝓤)) ln (λ r e′. id⊢ 𝓤 (fact 𝓤 (r ≡ ln))) (and-local ! 26 refl (and-local ! 31 refl (no-more !))) (λ g9.
+          (k, (z, tt)) (g6, (gz, tt)) tt (id⊢ 𝓤 (emp 𝓤)) ln (λ r e′. id⊢ 𝓤 (fact 𝓤 (r ≡ ln))) (locals ! (26 ∷ 31 ∷ []) (refl, (refl, tt))) (λ g9.
           land-in ! 22 refl (tt, record { fits = g9 .1 }) $
           lends-again ! 27 11 10 refl refl refl refl (tt, tt) refl refl (tt, (tt, (record { fits = room₂ .0 }, tt))) refl $
           move ! (4 ∷ 5 ∷ []) $
           calls-lent ! fm Le.the-row (plain (λ _. usize) ∷ []) Nothing (yes, tt) (λ _. vunit) nothing-tells b₂ o₂ n₂ ls refl (λ ν. (uint-vals w64, tt)) (λ ν. (uint-makes 𝓤 H A W w64, tt)) (λ ν. (ln, tt)) (λ ν. (g9, tt))
-          (fill-learners.clauses 𝓤 H A mem run) known-fill-learners room₂ tt ls′ (λ ν δ. tt) (λ ν δ. factI 𝓤 _ (emp 𝓤) in-l) (λ ν δ r ws. fact-mono 𝓤 (ws .0 ≡ ls′) ((r ≡ tt) × (ws .0 ≡ ls′)) (λ e′. (refl, e′))) (λ ν δ. (and-local ! 10 refl (and-local ! 22 refl (no-more !)))) (λ _ e21.
+          (fill-learners.clauses 𝓤 H A mem run) known-fill-learners room₂ tt ls′ (λ ν δ. tt) (λ ν δ. factI 𝓤 _ (emp 𝓤) in-l) (λ ν δ r ws. fact-mono 𝓤 (ws .0 ≡ ls′) ((r ≡ tt) × (ws .0 ≡ ls′)) (λ e′. (refl, e′))) (λ ν δ. (locals ! (10 ∷ 22 ∷ []) (refl, (refl, tt)))) (λ _ e21.
           land-in ! 16 refl (tt, tt) $
           forget ! 16 refl $
           forget ! 11 refl $
@@ -287,12 +287,12 @@ module _ {M : Type 1} (𝓤 : URA M) (H : Heap 𝓤) (A : Atoms 𝓤) (W : Given
           ∷ ‵ (froom (sliceTy (tyRef erased mut (pointee (Ms.the-row .written)))) l₂₃ 0) ∷ ‵ (froom (tyRef erased mut (pointee (Ms.the-row .written))) l₂₂ 0) ∷ ‵ (froom (sliceTy (tyRef erased mut (pointee (Le.the-row .written)))) l₂₁ 0) ∷ ‵ (froom (tyRef erased mut (pointee (Le.the-row .written))) l₂₀ 0) ∷ ‵ (froom (sliceTy (tyRef erased mut (pointee (Ac.the-row .written)))) l₁₉ 0) ∷ ‵ (froom (tyRef erased mut (pointee (Ac.the-row .written))) l₁₈ 0) ∷ ‵ (froom (sliceTy (tyRef erased mut (pointee (Pr.the-row .written)))) l₁₇ 0) ∷ ‵ (froom (tyRef erased mut (pointee (Pr.the-row .written))) l₁₆ 0) ∷ ‵ (froom tyUnit l₁₅ 0) ∷ ‵ (froom word l₁₄ 0) ∷ ‵ (froom word l₁₃ 0) ∷ ‵ (froom word l₁₂ 0) ∷ ‵ (froom word l₁₁ 0) ∷ ‵ (froom word l₁₀ 0) ∷ ‵ (froom word l₉ 0) ∷ ‵ (froom word l₈ 0) ∷ ‵ (fat fullShare word l₇ 0 (vint w64 pn)) ∷ ‵ (fat fullShare byte l₆ 0 (vint w8 k)) ∷ ‵ (fat fullShare (sliceTy (tyRef (named 3) mut (pointee (Ms.the-row .written)))) l₅ 0 s₃) ∷ ‵ (fat fullShare (sliceTy (tyRef (named 2) mut (pointee (Le.the-row .written)))) l₄ 0 s₂) ∷ ‵ (fat fullShare (sliceTy (tyRef (named 1) mut (pointee (Ac.the-row .written)))) l₃ 0 s₁) ∷ ‵ (fat fullShare (sliceTy (tyRef (named 0) mut (pointee (Pr.the-row .written)))) l₂ 0 s₀) ∷ ‵ (fat fullShare Sz′.mir l₁ 0 (valSz z)) ∷ ‵ (froom byte l₀ 0) ∷ Dies ∷ []) (runs C Λ En pieces.t-10 (atRet En Post))
       part-3 g6 g7 e17 =
           calls-value ! fm (acceptors-if.signature .params) usize (acceptors-if.ended .kept) (acceptors-if.clauses 𝓤 H A mem run) known-acceptors-if (uint-vals w8, (valsSz, tt)) (uint-makes 𝓤 H A W w8, (makesSz, tt)) (vint w64) (uint-tells w64)
-          (k, (z, tt)) (g6, (gz, tt)) tt (id⊢ 𝓤 (emp 𝓤)) an (λ r e′. id⊢ 𝓤 (fact 𝓤 (r ≡ an))) (and-local ! 26 refl (and-local ! 31 refl (no-more !))) (λ g8.
+          (k, (z, tt)) (g6, (gz, tt)) tt (id⊢ 𝓤 (emp 𝓤)) an (λ r e′. id⊢ 𝓤 (fact 𝓤 (r ≡ an))) (locals ! (26 ∷ 31 ∷ []) (refl, (refl, tt))) (λ g8.
           land-in ! 23 refl (tt, record { fits = g8 .1 }) $
           lends-again ! 28 13 12 refl refl refl refl (tt, tt) refl refl (tt, (tt, (record { fits = room₁ .0 }, tt))) refl $
           move ! (2 ∷ 3 ∷ []) $
           calls-lent ! fm Ac.the-row (plain (λ _. usize) ∷ []) Nothing (yes, tt) (λ _. vunit) nothing-tells b₁ o₁ n₁ acs refl (λ ν. (uint-vals w64, tt)) (λ ν. (uint-makes 𝓤 H A W w64, tt)) (λ ν. (an, tt)) (λ ν. (g8, tt))
-          (fill-acceptors.clauses 𝓤 H A mem run) known-fill-acceptors room₁ tt acs′ (λ ν δ. tt) (λ ν δ. factI 𝓤 _ (emp 𝓤) in-a) (λ ν δ r ws. fact-mono 𝓤 (ws .0 ≡ acs′) ((r ≡ tt) × (ws .0 ≡ acs′)) (λ e′. (refl, e′))) (λ ν δ. (and-local ! 12 refl (and-local ! 23 refl (no-more !)))) (λ _ e19.
+          (fill-acceptors.clauses 𝓤 H A mem run) known-fill-acceptors room₁ tt acs′ (λ ν δ. tt) (λ ν δ. factI 𝓤 _ (emp 𝓤) in-a) (λ ν δ r ws. fact-mono 𝓤 (ws .0 ≡ acs′) ((r ≡ tt) × (ws .0 ≡ acs′)) (λ e′. (refl, e′))) (λ ν δ. (locals ! (12 ∷ 23 ∷ []) (refl, (refl, tt)))) (λ _ e19.
           land-in ! 16 refl (tt, tt) $
           forget ! 16 refl $
           forget ! 13 refl $
@@ -303,11 +303,11 @@ module _ {M : Type 1} (𝓤 : URA M) (H : Heap 𝓤) (A : Atoms 𝓤) (W : Given
           ∷ ‵ (froom (sliceTy (tyRef erased mut (pointee (Ms.the-row .written)))) l₂₃ 0) ∷ ‵ (froom (tyRef erased mut (pointee (Ms.the-row .written))) l₂₂ 0) ∷ ‵ (froom (sliceTy (tyRef erased mut (pointee (Le.the-row .written)))) l₂₁ 0) ∷ ‵ (froom (tyRef erased mut (pointee (Le.the-row .written))) l₂₀ 0) ∷ ‵ (froom (sliceTy (tyRef erased mut (pointee (Ac.the-row .written)))) l₁₉ 0) ∷ ‵ (froom (tyRef erased mut (pointee (Ac.the-row .written))) l₁₈ 0) ∷ ‵ (froom (sliceTy (tyRef erased mut (pointee (Pr.the-row .written)))) l₁₇ 0) ∷ ‵ (froom (tyRef erased mut (pointee (Pr.the-row .written))) l₁₆ 0) ∷ ‵ (froom tyUnit l₁₅ 0) ∷ ‵ (froom word l₁₄ 0) ∷ ‵ (froom word l₁₃ 0) ∷ ‵ (froom word l₁₂ 0) ∷ ‵ (froom word l₁₁ 0) ∷ ‵ (froom word l₁₀ 0) ∷ ‵ (froom word l₉ 0) ∷ ‵ (froom word l₈ 0) ∷ ‵ (froom word l₇ 0) ∷ ‵ (fat fullShare byte l₆ 0 (vint w8 k)) ∷ ‵ (fat fullShare (sliceTy (tyRef (named 3) mut (pointee (Ms.the-row .written)))) l₅ 0 s₃) ∷ ‵ (fat fullShare (sliceTy (tyRef (named 2) mut (pointee (Le.the-row .written)))) l₄ 0 s₂) ∷ ‵ (fat fullShare (sliceTy (tyRef (named 1) mut (pointee (Ac.the-row .written)))) l₃ 0 s₁) ∷ ‵ (fat fullShare (sliceTy (tyRef (named 0) mut (pointee (Pr.the-row .written)))) l₂ 0 s₀) ∷ ‵ (fat fullShare Sz′.mir l₁ 0 (valSz z)) ∷ ‵ (froom byte l₀ 0) ∷ Dies ∷ []) (runs C Λ En pieces.t-6 (atRet En Post))
       part-2 g6 =
           calls-value ! fm (proposers-if.signature .params) usize (proposers-if.ended .kept) (proposers-if.clauses 𝓤 H A mem run) known-proposers-if (uint-vals w8, (valsSz, tt)) (uint-makes 𝓤 H A W w8, (makesSz, tt)) (vint w64) (uint-tells w64)
-          (k, (z, tt)) (g6, (gz, tt)) tt (id⊢ 𝓤 (emp 𝓤)) pn (λ r e′. id⊢ 𝓤 (fact 𝓤 (r ≡ pn))) (and-local ! 26 refl (and-local ! 31 refl (no-more !))) (λ g7.
+          (k, (z, tt)) (g6, (gz, tt)) tt (id⊢ 𝓤 (emp 𝓤)) pn (λ r e′. id⊢ 𝓤 (fact 𝓤 (r ≡ pn))) (locals ! (26 ∷ 31 ∷ []) (refl, (refl, tt))) (λ g7.
           land-in ! 24 refl (tt, record { fits = g7 .1 }) $
           lends-again ! 29 15 14 refl refl refl refl (tt, tt) refl refl (tt, (tt, (record { fits = room₀ .0 }, tt))) refl $
           calls-lent ! fm Pr.the-row (plain (λ _. usize) ∷ []) Nothing (yes, tt) (λ _. vunit) nothing-tells b₀ o₀ n₀ ps refl (λ ν. (uint-vals w64, tt)) (λ ν. (uint-makes 𝓤 H A W w64, tt)) (λ ν. (pn, tt)) (λ ν. (g7, tt))
-          (fill-proposers.clauses 𝓤 H A mem run) known-fill-proposers room₀ tt ps′ (λ ν δ. tt) (λ ν δ. factI 𝓤 _ (emp 𝓤) in-p) (λ ν δ r ws. fact-mono 𝓤 (ws .0 ≡ ps′) ((r ≡ tt) × (ws .0 ≡ ps′)) (λ e′. (refl, e′))) (λ ν δ. (and-local ! 14 refl (and-local ! 24 refl (no-more !)))) (λ _ e17.
+          (fill-proposers.clauses 𝓤 H A mem run) known-fill-proposers room₀ tt ps′ (λ ν δ. tt) (λ ν δ. factI 𝓤 _ (emp 𝓤) in-p) (λ ν δ r ws. fact-mono 𝓤 (ws .0 ≡ ps′) ((r ≡ tt) × (ws .0 ≡ ps′)) (λ e′. (refl, e′))) (λ ν δ. (locals ! (14 ∷ 24 ∷ []) (refl, (refl, tt)))) (λ _ e17.
           land-in ! 16 refl (tt, tt) $
           forget ! 16 refl $
           forget ! 15 refl $
@@ -322,7 +322,7 @@ module _ {M : Type 1} (𝓤 : URA M) (H : Heap 𝓤) (A : Atoms 𝓤) (W : Given
           assigns ! (of-opd ! (reads ! (from ! (fld ! refl (stop !))) (look-in ! 27 (sub ! 1 refl (whole !))))) (from ! (stop !)) (init ! 18 refl (tt, record { fits = room₂ .0 })) $
           assigns ! (of-opd ! (reads ! (from ! (fld ! refl (stop !))) (look-in ! 26 (sub ! 1 refl (whole !))))) (from ! (stop !)) (init ! 17 refl (tt, record { fits = room₃ .0 })) $
           calls-value ! fm (fresh-no.signature .params) u8 (fresh-no.ended .kept) (fresh-no.clauses 𝓤 H A mem run) known-fresh-no (valsSz, (uint-vals w64, (uint-vals w64, (uint-vals w64, (uint-vals w64, tt))))) (makesSz, (uint-makes 𝓤 H A W w64, (uint-makes 𝓤 H A W w64, (uint-makes 𝓤 H A W w64, (uint-makes 𝓤 H A W w64, tt))))) (vint w8) (uint-tells w8)
-          (z, (n₀, (n₁, (n₂, (n₃, tt))))) (gz, ((refl, room₀ .0), ((refl, room₁ .0), ((refl, room₂ .0), ((refl, room₃ .0), tt))))) tt (id⊢ 𝓤 (emp 𝓤)) k (λ r e′. id⊢ 𝓤 (fact 𝓤 (r ≡ k))) (and-local ! 31 refl (and-local ! 21 refl (and-local ! 20 refl (and-local ! 19 refl (and-local ! 18 refl (no-more !)))))) (λ g6.
+          (z, (n₀, (n₁, (n₂, (n₃, tt))))) (gz, ((refl, room₀ .0), ((refl, room₁ .0), ((refl, room₂ .0), ((refl, room₃ .0), tt))))) tt (id⊢ 𝓤 (emp 𝓤)) k (λ r e′. id⊢ 𝓤 (fact 𝓤 (r ≡ k))) (locals ! (31 ∷ 21 ∷ 20 ∷ 19 ∷ 18 ∷ []) (refl, (refl, (refl, (refl, (refl, tt)))))) (λ g6.
           land-in ! 25 refl (tt, record { fits = g6 .1 }) $
           forget ! 20 refl $
           forget ! 19 refl $

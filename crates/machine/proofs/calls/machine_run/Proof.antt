@@ -19,7 +19,7 @@ use contract.Monad.{Fun, fact, factI, fact-mono}
 use contract.Running.{givenOf, tables, tablesOf}
 use types.Kit.{Given, Item, ‵, _⊛_, ⋆, runs, atRet, Sq, _$_, _∵_, !, qed, by, move, keep, split, join, fsplit, fjoin, suffices, frame, done}
 use types.Part.{whole, sub, look-in}
-use types.Run.{look, init, forget, stop, fld, from, load as reads, of-opd, no-more, assigns, returns, enter, params1, pass1, pass0}
+use types.Run.{look, init, forget, stop, fld, from, load as reads, of-opd, assigns, returns, enter, params1, pass1, pass0}
 use sound.WpLaws.{FmC, fmOf, WpFn-mono}
 use denote.RattleType.{owns}
 use denote.Laws.{Is, Makes}
@@ -43,7 +43,7 @@ use Rattle.machine.specs.Running.{Ran, driven, Drives}
 use Rattle.machine.specs.Calls.{lent as lent-as, afterRun, logAfterRun}
 use Rattle.machine.specs.Counting.{lengthsAre, eventsNo, soundRunOf, turnsOf}
 use Rattle.machine.proofs.Frees.{full, bare, allocates, frees-all}
-use Rattle.machine.proofs.Moves.{and-local, land-in, lends-again}
+use Rattle.machine.proofs.Moves.{locals, land-in, lends-again}
 use Rattle.machine.proofs.Relending.{Slice, listAt}
 use Rattle.machine.proofs.CallsByValue.{calls-value}
 use Rattle.machine.proofs.CallsWithSlices.{passed, lent, handed, calls}
@@ -275,7 +275,7 @@ module _ {M : Type 1} (𝓤 : URA M) (H : Heap 𝓤) (A : Atoms 𝓤) (W : Given
           ∷ handed u64 κ₄ q₄ γ₄ b₄ o₄ events
           ∷ lent u64 κ₅ q₅ γ₅ b₅ o₅ n₅ log (r .log) refl room₅
           ∷ passed usize (uint-vals w64) (uint-makes 𝓤 H A W w64) i g16 ∷ [])
-          Nothing (drive.clauses 𝓤 H A mem run) known-drive (λ _. vunit) nothing-tells tt (λ w. tt) (λ w. factI 𝓤 _ (emp 𝓤) fitting) (λ w v ws. fact-mono 𝓤 ((ws .1 .0 ≡ (r .proposers)) × ((ws .1 .1 .0 ≡ (r .acceptors)) × ((ws .1 .1 .1 .0 ≡ (r .learners)) × ((ws .1 .1 .1 .1 .0 ≡ (r .slots)) × ((ws .1 .1 .1 .1 .1 .1 .0 ≡ (r .log))))))) ((v ≡ tt) × ((ws .1 .0 ≡ (r .proposers)) × ((ws .1 .1 .0 ≡ (r .acceptors)) × ((ws .1 .1 .1 .0 ≡ (r .learners)) × ((ws .1 .1 .1 .1 .0 ≡ (r .slots)) × ((ws .1 .1 .1 .1 .1 .1 .0 ≡ (r .log)))))))) (λ e′. (refl, e′))) (λ w. (and-local ! 40 refl (and-local ! 10 refl (and-local ! 8 refl (and-local ! 6 refl (and-local ! 4 refl (and-local ! 35 refl (and-local ! 2 refl (and-local ! 25 refl (no-more !)))))))))) (λ _ e29.
+          Nothing (drive.clauses 𝓤 H A mem run) known-drive (λ _. vunit) nothing-tells tt (λ w. tt) (λ w. factI 𝓤 _ (emp 𝓤) fitting) (λ w v ws. fact-mono 𝓤 ((ws .1 .0 ≡ (r .proposers)) × ((ws .1 .1 .0 ≡ (r .acceptors)) × ((ws .1 .1 .1 .0 ≡ (r .learners)) × ((ws .1 .1 .1 .1 .0 ≡ (r .slots)) × ((ws .1 .1 .1 .1 .1 .1 .0 ≡ (r .log))))))) ((v ≡ tt) × ((ws .1 .0 ≡ (r .proposers)) × ((ws .1 .1 .0 ≡ (r .acceptors)) × ((ws .1 .1 .1 .0 ≡ (r .learners)) × ((ws .1 .1 .1 .1 .0 ≡ (r .slots)) × ((ws .1 .1 .1 .1 .1 .1 .0 ≡ (r .log)))))))) (λ e′. (refl, e′))) (λ w. (locals ! (40 ∷ 10 ∷ 8 ∷ 6 ∷ 4 ∷ 35 ∷ 2 ∷ 25 ∷ []) (refl, (refl, (refl, (refl, (refl, (refl, (refl, (refl, tt)))))))))) (λ _ e29.
           land-in ! 22 refl (tt, tt) $
           assigns ! (of-opd ! (reads ! (from ! (stop !)) (look ! 36 refl))) (from ! (stop !)) (init ! 51 refl (tt, record { fits = g15 .1 })) $
           returns ! (look ! 51 refl) $ frees-all ! 12 (full _ _ _ ∷ full _ _ _ ∷ full _ _ _ ∷ full _ _ _ ∷ full _ _ _ ∷ full _ _ _ ∷ full _ _ _ ∷ full _ _ _ ∷ full _ _ _ ∷ full _ _ _ ∷ full _ _ _ ∷ bare _ _ ∷ bare _ _ ∷ bare _ _ ∷ bare _ _ ∷ bare _ _ ∷ bare _ _ ∷ bare _ _ ∷ bare _ _ ∷ bare _ _ ∷ bare _ _ ∷ bare _ _ ∷ bare _ _ ∷ full _ _ _ ∷ full _ _ _ ∷ full _ _ _ ∷ full _ _ _ ∷ full _ _ _ ∷ full _ _ _ ∷ full _ _ _ ∷ full _ _ _ ∷ full _ _ _ ∷ full _ _ _ ∷ full _ _ _ ∷ full _ _ _ ∷ full _ _ _ ∷ full _ _ _ ∷ full _ _ _ ∷ full _ _ _ ∷ full _ _ _ ∷ []) refl refl $
@@ -285,10 +285,10 @@ module _ {M : Type 1} (𝓤 : URA M) (H : Heap 𝓤) (A : Atoms 𝓤) (W : Given
           ∷ ‵ (froom (sliceTy (tyRef erased mut (pointee (u64 .written)))) l₃₉ 0) ∷ ‵ (froom (tyRef erased mut (pointee (u64 .written))) l₃₈ 0) ∷ ‵ (froom (sliceTy (tyRef erased mut (pointee (Ms.the-row .written)))) l₃₇ 0) ∷ ‵ (froom (tyRef erased mut (pointee (Ms.the-row .written))) l₃₆ 0) ∷ ‵ (froom (sliceTy (tyRef erased mut (pointee (Le.the-row .written)))) l₃₅ 0) ∷ ‵ (froom (tyRef erased mut (pointee (Le.the-row .written))) l₃₄ 0) ∷ ‵ (froom (sliceTy (tyRef erased mut (pointee (Ac.the-row .written)))) l₃₃ 0) ∷ ‵ (froom (tyRef erased mut (pointee (Ac.the-row .written))) l₃₂ 0) ∷ ‵ (froom (sliceTy (tyRef erased mut (pointee (Pr.the-row .written)))) l₃₁ 0) ∷ ‵ (froom (tyRef erased mut (pointee (Pr.the-row .written))) l₃₀ 0) ∷ ‵ (froom tyUnit l₂₉ 0) ∷ ‵ (froom (sliceTy (tyRef erased imm (pointee (Ms.the-row .written)))) l₂₈ 0) ∷ ‵ (froom (tyRef erased imm (pointee (Ms.the-row .written))) l₂₇ 0) ∷ ‵ (froom (sliceTy (tyRef erased imm (pointee (Le.the-row .written)))) l₂₆ 0) ∷ ‵ (froom (tyRef erased imm (pointee (Le.the-row .written))) l₂₅ 0) ∷ ‵ (froom (sliceTy (tyRef erased imm (pointee (Ac.the-row .written)))) l₂₄ 0) ∷ ‵ (froom (tyRef erased imm (pointee (Ac.the-row .written))) l₂₃ 0) ∷ ‵ (froom (sliceTy (tyRef erased imm (pointee (Pr.the-row .written)))) l₂₂ 0) ∷ ‵ (froom (tyRef erased imm (pointee (Pr.the-row .written))) l₂₁ 0) ∷ ‵ (froom word l₂₀ 0) ∷ ‵ (froom word l₁₉ 0) ∷ ‵ (froom word l₁₈ 0) ∷ ‵ (froom word l₁₇ 0) ∷ ‵ (froom word l₁₆ 0) ∷ ‵ (froom byte l₁₅ 0) ∷ ‵ (fat fullShare byte l₁₄ 0 (vint w8 counted)) ∷ ‵ (fat fullShare tyBool l₁₃ 0 (vbool m)) ∷ ‵ (fat fullShare tyBool l₁₂ 0 (vbool l)) ∷ ‵ (fat fullShare tyBool l₁₁ 0 (vbool a)) ∷ ‵ (fat fullShare tyBool l₁₀ 0 (vbool p)) ∷ ‵ (fat fullShare tyBool l₉ 0 (vbool all-sized)) ∷ ‵ (fat fullShare half l₈ 0 (vint w16 n)) ∷ ‵ (fat fullShare (sliceTy (tyRef (named 5) mut (pointee (u64 .written)))) l₇ 0 s₅) ∷ ‵ (fat fullShare (sliceTy (tyRef (named 4) imm (pointee (u64 .written)))) l₆ 0 s₄) ∷ ‵ (fat fullShare (sliceTy (tyRef (named 3) mut (pointee (Ms.the-row .written)))) l₅ 0 s₃) ∷ ‵ (fat fullShare (sliceTy (tyRef (named 2) mut (pointee (Le.the-row .written)))) l₄ 0 s₂) ∷ ‵ (fat fullShare (sliceTy (tyRef (named 1) mut (pointee (Ac.the-row .written)))) l₃ 0 s₁) ∷ ‵ (fat fullShare (sliceTy (tyRef (named 0) mut (pointee (Pr.the-row .written)))) l₂ 0 s₀) ∷ ‵ (fat fullShare Sz′.mir l₁ 0 (valSz z)) ∷ ‵ (froom byte l₀ 0) ∷ Dies ∷ []) (runs C Λ En pieces.t-21 (atRet En Post))
       part-5 g9 g10 g11 g12 g13 g14 =
           calls-value ! fm (run-no.signature .params) u8 (run-no.ended .kept) (run-no.clauses 𝓤 H A mem run) known-run-no (bool-vals, (bool-vals, (bool-vals, (bool-vals, (bool-vals, (uint-vals w8, tt)))))) (bool-makes 𝓤 H A W, (bool-makes 𝓤 H A W, (bool-makes 𝓤 H A W, (bool-makes 𝓤 H A W, (bool-makes 𝓤 H A W, (uint-makes 𝓤 H A W w8, tt)))))) (vint w8) (uint-tells w8)
-          (all-sized, (p, (a, (l, (m, (counted, tt)))))) (g9, (g10, (g11, (g12, (g13, (g14, tt)))))) tt (id⊢ 𝓤 (emp 𝓤)) k (λ r e′. id⊢ 𝓤 (fact 𝓤 (r ≡ k))) (and-local ! 43 refl (and-local ! 42 refl (and-local ! 41 refl (and-local ! 40 refl (and-local ! 39 refl (and-local ! 38 refl (no-more !))))))) (λ g15.
+          (all-sized, (p, (a, (l, (m, (counted, tt)))))) (g9, (g10, (g11, (g12, (g13, (g14, tt)))))) tt (id⊢ 𝓤 (emp 𝓤)) k (λ r e′. id⊢ 𝓤 (fact 𝓤 (r ≡ k))) (locals ! (43 ∷ 42 ∷ 41 ∷ 40 ∷ 39 ∷ 38 ∷ []) (refl, (refl, (refl, (refl, (refl, (refl, tt))))))) (λ g15.
           land-in ! 36 refl (tt, record { fits = g15 .1 }) $
           calls-value ! fm (count-if.signature .params) usize (count-if.ended .kept) (count-if.clauses 𝓤 H A mem run) known-count-if (uint-vals w8, (uint-vals w16, tt)) (uint-makes 𝓤 H A W w8, (uint-makes 𝓤 H A W w16, tt)) (vint w64) (uint-tells w64)
-          (k, (n, tt)) (g15, (gn, tt)) tt (id⊢ 𝓤 (emp 𝓤)) i (λ r e′. id⊢ 𝓤 (fact 𝓤 (r ≡ i))) (and-local ! 37 refl (and-local ! 44 refl (no-more !))) (λ g16.
+          (k, (n, tt)) (g15, (gn, tt)) tt (id⊢ 𝓤 (emp 𝓤)) i (λ r e′. id⊢ 𝓤 (fact 𝓤 (r ≡ i))) (locals ! (37 ∷ 44 ∷ []) (refl, (refl, tt))) (λ g16.
           land-in ! 35 refl (tt, record { fits = g16 .1 }) $
           part-6 g9 g10 g11 g12 g13 g14 g15 g16))
 
@@ -298,7 +298,7 @@ module _ {M : Type 1} (𝓤 : URA M) (H : Heap 𝓤) (A : Atoms 𝓤) (W : Given
           assigns ! (of-opd ! (reads ! (from ! (fld ! refl (stop !))) (look-in ! 45 (sub ! 1 refl (whole !))))) (from ! (stop !)) (init ! 34 refl (tt, record { fits = room₄ .0 })) $
           assigns ! (of-opd ! (reads ! (from ! (fld ! refl (stop !))) (look-in ! 44 (sub ! 1 refl (whole !))))) (from ! (stop !)) (init ! 31 refl (tt, record { fits = room₅ .0 })) $
           calls-value ! fm (events-no.signature .params) u8 (events-no.ended .kept) (events-no.clauses 𝓤 H A mem run) known-events-no (uint-vals w64, (uint-vals w64, (uint-vals w16, tt))) (uint-makes 𝓤 H A W w64, (uint-makes 𝓤 H A W w64, (uint-makes 𝓤 H A W w16, tt))) (vint w8) (uint-tells w8)
-          (n₄, (n₅, (n, tt))) ((refl, room₄ .0), ((refl, room₅ .0), (gn, tt))) tt (id⊢ 𝓤 (emp 𝓤)) counted (λ r e′. id⊢ 𝓤 (fact 𝓤 (r ≡ counted))) (and-local ! 35 refl (and-local ! 32 refl (and-local ! 44 refl (no-more !)))) (λ g14.
+          (n₄, (n₅, (n, tt))) ((refl, room₄ .0), ((refl, room₅ .0), (gn, tt))) tt (id⊢ 𝓤 (emp 𝓤)) counted (λ r e′. id⊢ 𝓤 (fact 𝓤 (r ≡ counted))) (locals ! (35 ∷ 32 ∷ 44 ∷ []) (refl, (refl, (refl, tt)))) (λ g14.
           land-in ! 37 refl (tt, record { fits = g14 .1 }) $
           forget ! 34 refl $
           forget ! 31 refl $
@@ -310,12 +310,12 @@ module _ {M : Type 1} (𝓤 : URA M) (H : Heap 𝓤) (A : Atoms 𝓤) (W : Given
           lends-again ! 47 26 25 refl refl refl refl (tt, tt) refl refl (tt, (tt, (record { fits = room₂ .0 }, tt))) refl $
           move ! (4 ∷ 5 ∷ []) $
           calls-shared ! fm Le.the-row (plain (λ _. Sz.the-row) ∷ []) bool (yes, tt) vbool bool-tells b₂ o₂ n₂ ls refl (λ ν. (valsSz, tt)) (λ ν. (makesSz, tt)) (λ ν. (z, tt)) (λ ν. (gz, tt))
-          (learners-in-range.clauses 𝓤 H A mem run) known-learners-in-range l (λ ν δ. tt) (λ ν δ. id⊢ 𝓤 (emp 𝓤)) (λ ν δ r e′. id⊢ 𝓤 (fact 𝓤 (r ≡ l))) (λ ν δ. (and-local ! 28 refl (and-local ! 53 refl (no-more !)))) (λ g12.
+          (learners-in-range.clauses 𝓤 H A mem run) known-learners-in-range l (λ ν δ. tt) (λ ν δ. id⊢ 𝓤 (emp 𝓤)) (λ ν δ r e′. id⊢ 𝓤 (fact 𝓤 (r ≡ l))) (λ ν δ. (locals ! (28 ∷ 53 ∷ []) (refl, (refl, tt)))) (λ g12.
           land-in ! 39 refl (tt, tt) $
           lends-again ! 46 24 23 refl refl refl refl (tt, tt) refl refl (tt, (tt, (record { fits = room₃ .0 }, tt))) refl $
           move ! (6 ∷ 7 ∷ []) $
           calls-shared ! fm Ms.the-row (plain (λ _. Sz.the-row) ∷ []) bool (yes, tt) vbool bool-tells b₃ o₃ n₃ t refl (λ ν. (valsSz, tt)) (λ ν. (makesSz, tt)) (λ ν. (z, tt)) (λ ν. (gz, tt))
-          (messages-in-range.clauses 𝓤 H A mem run) known-messages-in-range m (λ ν δ. tt) (λ ν δ. id⊢ 𝓤 (emp 𝓤)) (λ ν δ r e′. id⊢ 𝓤 (fact 𝓤 (r ≡ m))) (λ ν δ. (and-local ! 26 refl (and-local ! 53 refl (no-more !)))) (λ g13.
+          (messages-in-range.clauses 𝓤 H A mem run) known-messages-in-range m (λ ν δ. tt) (λ ν δ. id⊢ 𝓤 (emp 𝓤)) (λ ν δ r e′. id⊢ 𝓤 (fact 𝓤 (r ≡ m))) (λ ν δ. (locals ! (26 ∷ 53 ∷ []) (refl, (refl, tt)))) (λ g13.
           land-in ! 38 refl (tt, tt) $
           forget ! 26 refl $
           forget ! 25 refl $
@@ -328,12 +328,12 @@ module _ {M : Type 1} (𝓤 : URA M) (H : Heap 𝓤) (A : Atoms 𝓤) (W : Given
       part-2 g9 =
           lends-again ! 49 30 29 refl refl refl refl (tt, tt) refl refl (tt, (tt, (record { fits = room₀ .0 }, tt))) refl $
           calls-shared ! fm Pr.the-row (plain (λ _. Sz.the-row) ∷ []) bool (yes, tt) vbool bool-tells b₀ o₀ n₀ ps refl (λ ν. (valsSz, tt)) (λ ν. (makesSz, tt)) (λ ν. (z, tt)) (λ ν. (gz, tt))
-          (proposers-in-range.clauses 𝓤 H A mem run) known-proposers-in-range p (λ ν δ. tt) (λ ν δ. id⊢ 𝓤 (emp 𝓤)) (λ ν δ r e′. id⊢ 𝓤 (fact 𝓤 (r ≡ p))) (λ ν δ. (and-local ! 32 refl (and-local ! 53 refl (no-more !)))) (λ g10.
+          (proposers-in-range.clauses 𝓤 H A mem run) known-proposers-in-range p (λ ν δ. tt) (λ ν δ. id⊢ 𝓤 (emp 𝓤)) (λ ν δ r e′. id⊢ 𝓤 (fact 𝓤 (r ≡ p))) (λ ν δ. (locals ! (32 ∷ 53 ∷ []) (refl, (refl, tt)))) (λ g10.
           land-in ! 41 refl (tt, tt) $
           lends-again ! 48 28 27 refl refl refl refl (tt, tt) refl refl (tt, (tt, (record { fits = room₁ .0 }, tt))) refl $
           move ! (2 ∷ 3 ∷ []) $
           calls-shared ! fm Ac.the-row (plain (λ _. Sz.the-row) ∷ []) bool (yes, tt) vbool bool-tells b₁ o₁ n₁ acs refl (λ ν. (valsSz, tt)) (λ ν. (makesSz, tt)) (λ ν. (z, tt)) (λ ν. (gz, tt))
-          (acceptors-in-range.clauses 𝓤 H A mem run) known-acceptors-in-range a (λ ν δ. tt) (λ ν δ. id⊢ 𝓤 (emp 𝓤)) (λ ν δ r e′. id⊢ 𝓤 (fact 𝓤 (r ≡ a))) (λ ν δ. (and-local ! 30 refl (and-local ! 53 refl (no-more !)))) (λ g11.
+          (acceptors-in-range.clauses 𝓤 H A mem run) known-acceptors-in-range a (λ ν δ. tt) (λ ν δ. id⊢ 𝓤 (emp 𝓤)) (λ ν δ r e′. id⊢ 𝓤 (fact 𝓤 (r ≡ a))) (λ ν δ. (locals ! (30 ∷ 53 ∷ []) (refl, (refl, tt)))) (λ g11.
           land-in ! 40 refl (tt, tt) $
           forget ! 30 refl $
           forget ! 29 refl $
@@ -349,7 +349,7 @@ module _ {M : Type 1} (𝓤 : URA M) (H : Heap 𝓤) (A : Atoms 𝓤) (W : Given
           assigns ! (of-opd ! (reads ! (from ! (fld ! refl (stop !))) (look-in ! 47 (sub ! 1 refl (whole !))))) (from ! (stop !)) (init ! 32 refl (tt, record { fits = room₂ .0 })) $
           assigns ! (of-opd ! (reads ! (from ! (fld ! refl (stop !))) (look-in ! 46 (sub ! 1 refl (whole !))))) (from ! (stop !)) (init ! 31 refl (tt, record { fits = room₃ .0 })) $
           calls-value ! fm (sized.signature .params) bool (sized.ended .kept) (sized.clauses 𝓤 H A mem run) known-sized (valsSz, (uint-vals w64, (uint-vals w64, (uint-vals w64, (uint-vals w64, tt))))) (makesSz, (uint-makes 𝓤 H A W w64, (uint-makes 𝓤 H A W w64, (uint-makes 𝓤 H A W w64, (uint-makes 𝓤 H A W w64, tt))))) vbool bool-tells
-          (z, (n₀, (n₁, (n₂, (n₃, tt))))) (gz, ((refl, room₀ .0), ((refl, room₁ .0), ((refl, room₂ .0), ((refl, room₃ .0), tt))))) tt (id⊢ 𝓤 (emp 𝓤)) all-sized (λ r e′. id⊢ 𝓤 (fact 𝓤 (r ≡ all-sized))) (and-local ! 51 refl (and-local ! 35 refl (and-local ! 34 refl (and-local ! 33 refl (and-local ! 32 refl (no-more !)))))) (λ g9.
+          (z, (n₀, (n₁, (n₂, (n₃, tt))))) (gz, ((refl, room₀ .0), ((refl, room₁ .0), ((refl, room₂ .0), ((refl, room₃ .0), tt))))) tt (id⊢ 𝓤 (emp 𝓤)) all-sized (λ r e′. id⊢ 𝓤 (fact 𝓤 (r ≡ all-sized))) (locals ! (51 ∷ 35 ∷ 34 ∷ 33 ∷ 32 ∷ []) (refl, (refl, (refl, (refl, (refl, tt)))))) (λ g9.
           land-in ! 42 refl (tt, tt) $
           forget ! 34 refl $
           forget ! 33 refl $

@@ -18,7 +18,7 @@ use ghost.Atoms.{Atoms}
 use contract.Monad.{Fun, fact, fact-mono}
 use contract.Running.{givenOf, tables, tablesOf}
 use types.Kit.{Given, Item, ‵, _⊛_, ⋆, runs, atRet, Sq, _$_, _∵_, !, qed, by, move, keep, split, join, fsplit, fjoin, suffices, frame, done}
-use types.Run.{look, init, forget, no-more, returns, enter, params1, pass1, pass0}
+use types.Run.{look, init, forget, returns, enter, params1, pass1, pass0}
 use sound.WpLaws.{FmC, fmOf, WpFn-mono}
 use denote.RattleType.{owns}
 use denote.Laws.{Is, Makes}
@@ -37,7 +37,7 @@ use denote.Exit.{yes}
 use Rattle.model.specs.Step.{Stepped, step}
 use Rattle.machine.specs.Calls.{lent as lent-as, saidOf}
 use Rattle.machine.proofs.Frees.{full, bare, allocates, frees-all}
-use Rattle.machine.proofs.Moves.{and-local, land-in, lends-again}
+use Rattle.machine.proofs.Moves.{locals, land-in, lends-again}
 use Rattle.machine.proofs.Relending.{Slice, listAt}
 use Rattle.machine.proofs.CallsByValue.{calls-value}
 use Rattle.machine.proofs.CallsWithSlices.{passed, lent, calls}
@@ -198,7 +198,7 @@ module _ {M : Type 1} (𝓤 : URA M) (H : Heap 𝓤) (A : Atoms 𝓤) (W : Given
           ∷ ‵ (froom (sliceTy (tyRef erased mut (pointee (Ms.the-row .written)))) l₁₅ 0) ∷ ‵ (froom (tyRef erased mut (pointee (Ms.the-row .written))) l₁₄ 0) ∷ ‵ (froom (sliceTy (tyRef erased mut (pointee (Le.the-row .written)))) l₁₃ 0) ∷ ‵ (froom (tyRef erased mut (pointee (Le.the-row .written))) l₁₂ 0) ∷ ‵ (froom (sliceTy (tyRef erased mut (pointee (Ac.the-row .written)))) l₁₁ 0) ∷ ‵ (froom (tyRef erased mut (pointee (Ac.the-row .written))) l₁₀ 0) ∷ ‵ (froom (sliceTy (tyRef erased mut (pointee (Pr.the-row .written)))) l₉ 0) ∷ ‵ (froom (tyRef erased mut (pointee (Pr.the-row .written))) l₈ 0) ∷ ‵ (fat fullShare An′.mir l₇ 0 (valAn (done′ .answer))) ∷ ‵ (fat fullShare Ev′.mir l₆ 0 (valEv e)) ∷ ‵ (fat fullShare (sliceTy (tyRef (named 3) mut (pointee (Ms.the-row .written)))) l₅ 0 s₃) ∷ ‵ (fat fullShare (sliceTy (tyRef (named 2) mut (pointee (Le.the-row .written)))) l₄ 0 s₂) ∷ ‵ (fat fullShare (sliceTy (tyRef (named 1) mut (pointee (Ac.the-row .written)))) l₃ 0 s₁) ∷ ‵ (fat fullShare (sliceTy (tyRef (named 0) mut (pointee (Pr.the-row .written)))) l₂ 0 s₀) ∷ ‵ (fat fullShare Sz′.mir l₁ 0 (valSz z)) ∷ ‵ (froom Sa′.mir l₀ 0) ∷ Dies ∷ []) (runs C Λ En pieces.t-10 (atRet En Post))
       part-2 g7 e₀ e₁ e₂ e₃ =
           calls-value ! fm (said-of.signature .params) Sa.the-row (said-of.ended .kept) (said-of.clauses 𝓤 H A mem run) known-said-of (valsAn, tt) (makesAn, tt) valSa (LL.tells Sa.the-type Sa′.the-laws)
-          ((done′ .answer), tt) (g7, tt) tt (id⊢ 𝓤 (emp 𝓤)) (saidOf (done′ .answer)) (λ r e′. id⊢ 𝓤 (fact 𝓤 (r ≡ (saidOf (done′ .answer))))) (and-local ! 17 refl (no-more !)) (λ g0.
+          ((done′ .answer), tt) (g7, tt) tt (id⊢ 𝓤 (emp 𝓤)) (saidOf (done′ .answer)) (λ r e′. id⊢ 𝓤 (fact 𝓤 (r ≡ (saidOf (done′ .answer))))) (locals ! (17 ∷ []) (refl, tt)) (λ g0.
           land-in ! 23 refl (typedSa (saidOf (done′ .answer)) g0) $
           returns ! (look ! 23 refl) $ frees-all ! 8 (bare _ _ ∷ bare _ _ ∷ bare _ _ ∷ bare _ _ ∷ bare _ _ ∷ bare _ _ ∷ bare _ _ ∷ bare _ _ ∷ full _ _ _ ∷ full _ _ _ ∷ full _ _ _ ∷ full _ _ _ ∷ full _ _ _ ∷ full _ _ _ ∷ full _ _ _ ∷ full _ _ _ ∷ []) refl refl $
           keep ! (0 ∷ 1 ∷ 2 ∷ 3 ∷ 4 ∷ 5 ∷ 6 ∷ 7 ∷ []) $ by ! (exits g0 e₀ e₁ e₂ e₃))
@@ -216,7 +216,7 @@ module _ {M : Type 1} (𝓤 : URA M) (H : Heap 𝓤) (A : Atoms 𝓤) (W : Given
           ∷ lent Le.the-row κ₂ q₂ γ₂ b₂ o₂ n₂ ls (done′ .state .learners) refl room₂
           ∷ lent Ms.the-row κ₃ q₃ γ₃ b₃ o₃ n₃ t (done′ .state .slots) refl room₃
           ∷ passed Ev.the-row valsEv makesEv e ge ∷ [])
-          An.the-row (single-step.clauses 𝓤 H A mem run) known-single-step valAn (EL.tells An.the-type An′.the-laws) (done′ .answer) (λ w. tt) (λ w. id⊢ 𝓤 (emp 𝓤)) (λ w v ws. fact-mono 𝓤 _ _ (λ e′. (e′ .0, e′ .1 .1))) (λ w. (and-local ! 16 refl (and-local ! 8 refl (and-local ! 6 refl (and-local ! 4 refl (and-local ! 2 refl (and-local ! 11 refl (no-more !)))))))) (λ g7 e7.
+          An.the-row (single-step.clauses 𝓤 H A mem run) known-single-step valAn (EL.tells An.the-type An′.the-laws) (done′ .answer) (λ w. tt) (λ w. id⊢ 𝓤 (emp 𝓤)) (λ w v ws. fact-mono 𝓤 _ _ (λ e′. (e′ .0, e′ .1 .1))) (λ w. (locals ! (16 ∷ 8 ∷ 6 ∷ 4 ∷ 2 ∷ 11 ∷ []) (refl, (refl, (refl, (refl, (refl, (refl, tt)))))))) (λ g7 e7.
           land-in ! 16 refl (typedAn (done′ .answer) g7) $
           forget ! 15 refl $
           forget ! 14 refl $

@@ -19,7 +19,7 @@ use contract.Monad.{Fun, fact, factI}
 use contract.Running.{givenOf, tables, tablesOf}
 use types.Kit.{Given, Item, ‵, _⊛_, ⋆, runs, atRet, Sq, _$_, _∵_, !, qed, by, move, keep, split, join, fsplit, fjoin, suffices, frame, done}
 use types.Part.{whole, sub, look-in}
-use types.Run.{look, init, forget, stop, fld, from, load as reads, of-opd, no-more, assigns, returns, enter, params1, pass1, pass0}
+use types.Run.{look, init, forget, stop, fld, from, load as reads, of-opd, assigns, returns, enter, params1, pass1, pass0}
 use sound.WpLaws.{FmC, fmOf, WpFn-mono}
 use denote.RattleType.{owns}
 use denote.Laws.{Is, Makes}
@@ -46,7 +46,7 @@ use Rattle.machine.specs.Running.{timesOf, Repeats}
 use Rattle.machine.specs.Calls.{lent as lent-as}
 use Rattle.machine.specs.Counting.{lengthsAre, soundOf, turnsOf}
 use Rattle.machine.proofs.Frees.{full, bare, allocates, frees-all}
-use Rattle.machine.proofs.Moves.{and-local, land-in, lends-again}
+use Rattle.machine.proofs.Moves.{locals, land-in, lends-again}
 use Rattle.machine.proofs.Relending.{Slice, listAt}
 use Rattle.machine.proofs.CallsByValue.{calls-value}
 use Rattle.machine.proofs.CallsWithSlices.{passed, lent, calls}
@@ -282,7 +282,7 @@ module _ {M : Type 1} (𝓤 : URA M) (H : Heap 𝓤) (A : Atoms 𝓤) (W : Given
           ∷ lent Ms.the-row κ₃ q₃ γ₃ b₃ o₃ n₃ t (r .slots) refl room₃
           ∷ passed Ev.the-row valsEv makesEv e ge
           ∷ passed u8 (uint-vals w8) (uint-makes 𝓤 H A W w8) n g13 ∷ [])
-          An.the-row (repeat.clauses 𝓤 H A mem run) known-repeat valAn (EL.tells An.the-type An′.the-laws) (r .answer) (λ w. tt) (λ w. factI 𝓤 _ (emp 𝓤) fitting) (λ w v ws. id⊢ 𝓤 _) (λ w. (and-local ! 34 refl (and-local ! 8 refl (and-local ! 6 refl (and-local ! 4 refl (and-local ! 2 refl (and-local ! 29 refl (and-local ! 22 refl (no-more !))))))))) (λ g0 e0.
+          An.the-row (repeat.clauses 𝓤 H A mem run) known-repeat valAn (EL.tells An.the-type An′.the-laws) (r .answer) (λ w. tt) (λ w. factI 𝓤 _ (emp 𝓤) fitting) (λ w v ws. id⊢ 𝓤 _) (λ w. (locals ! (34 ∷ 8 ∷ 6 ∷ 4 ∷ 2 ∷ 29 ∷ 22 ∷ []) (refl, (refl, (refl, (refl, (refl, (refl, (refl, tt))))))))) (λ g0 e0.
           land-in ! 41 refl (typedAn (r .answer) g0) $
           returns ! (look ! 41 refl) $ frees-all ! 8 (full _ _ _ ∷ full _ _ _ ∷ full _ _ _ ∷ full _ _ _ ∷ full _ _ _ ∷ full _ _ _ ∷ full _ _ _ ∷ full _ _ _ ∷ bare _ _ ∷ bare _ _ ∷ bare _ _ ∷ bare _ _ ∷ bare _ _ ∷ bare _ _ ∷ bare _ _ ∷ bare _ _ ∷ bare _ _ ∷ bare _ _ ∷ bare _ _ ∷ bare _ _ ∷ full _ _ _ ∷ full _ _ _ ∷ full _ _ _ ∷ full _ _ _ ∷ full _ _ _ ∷ full _ _ _ ∷ full _ _ _ ∷ full _ _ _ ∷ full _ _ _ ∷ full _ _ _ ∷ full _ _ _ ∷ full _ _ _ ∷ full _ _ _ ∷ full _ _ _ ∷ []) refl refl $
           keep ! (0 ∷ 1 ∷ 2 ∷ 3 ∷ 4 ∷ 5 ∷ 6 ∷ 7 ∷ []) $ by ! (exits g0 (e0 .0) (e0 .1 .0) (e0 .1 .1 .0) (e0 .1 .1 .1 .0)))
@@ -291,10 +291,10 @@ module _ {M : Type 1} (𝓤 : URA M) (H : Heap 𝓤) (A : Atoms 𝓤) (W : Given
           ∷ ‵ (froom (sliceTy (tyRef erased mut (pointee (Ms.the-row .written)))) l₃₃ 0) ∷ ‵ (froom (tyRef erased mut (pointee (Ms.the-row .written))) l₃₂ 0) ∷ ‵ (froom (sliceTy (tyRef erased mut (pointee (Le.the-row .written)))) l₃₁ 0) ∷ ‵ (froom (tyRef erased mut (pointee (Le.the-row .written))) l₃₀ 0) ∷ ‵ (froom (sliceTy (tyRef erased mut (pointee (Ac.the-row .written)))) l₂₉ 0) ∷ ‵ (froom (tyRef erased mut (pointee (Ac.the-row .written))) l₂₈ 0) ∷ ‵ (froom (sliceTy (tyRef erased mut (pointee (Pr.the-row .written)))) l₂₇ 0) ∷ ‵ (froom (tyRef erased mut (pointee (Pr.the-row .written))) l₂₆ 0) ∷ ‵ (froom (sliceTy (tyRef erased imm (pointee (Ms.the-row .written)))) l₂₅ 0) ∷ ‵ (froom (tyRef erased imm (pointee (Ms.the-row .written))) l₂₄ 0) ∷ ‵ (froom (sliceTy (tyRef erased imm (pointee (Le.the-row .written)))) l₂₃ 0) ∷ ‵ (froom (tyRef erased imm (pointee (Le.the-row .written))) l₂₂ 0) ∷ ‵ (froom (sliceTy (tyRef erased imm (pointee (Ac.the-row .written)))) l₂₁ 0) ∷ ‵ (froom (tyRef erased imm (pointee (Ac.the-row .written))) l₂₀ 0) ∷ ‵ (froom (sliceTy (tyRef erased imm (pointee (Pr.the-row .written)))) l₁₉ 0) ∷ ‵ (froom (tyRef erased imm (pointee (Pr.the-row .written))) l₁₈ 0) ∷ ‵ (froom word l₁₇ 0) ∷ ‵ (froom word l₁₆ 0) ∷ ‵ (froom word l₁₅ 0) ∷ ‵ (froom word l₁₄ 0) ∷ ‵ (froom byte l₁₃ 0) ∷ ‵ (froom byte l₁₂ 0) ∷ ‵ (fat fullShare tyBool l₁₁ 0 (vbool m)) ∷ ‵ (fat fullShare tyBool l₁₀ 0 (vbool l)) ∷ ‵ (fat fullShare tyBool l₉ 0 (vbool a)) ∷ ‵ (fat fullShare tyBool l₈ 0 (vbool p)) ∷ ‵ (fat fullShare tyBool l₇ 0 (vbool all-sized)) ∷ ‵ (fat fullShare Ev′.mir l₆ 0 (valEv e)) ∷ ‵ (fat fullShare (sliceTy (tyRef (named 3) mut (pointee (Ms.the-row .written)))) l₅ 0 s₃) ∷ ‵ (fat fullShare (sliceTy (tyRef (named 2) mut (pointee (Le.the-row .written)))) l₄ 0 s₂) ∷ ‵ (fat fullShare (sliceTy (tyRef (named 1) mut (pointee (Ac.the-row .written)))) l₃ 0 s₁) ∷ ‵ (fat fullShare (sliceTy (tyRef (named 0) mut (pointee (Pr.the-row .written)))) l₂ 0 s₀) ∷ ‵ (fat fullShare Sz′.mir l₁ 0 (valSz z)) ∷ ‵ (froom An′.mir l₀ 0) ∷ Dies ∷ []) (runs C Λ En pieces.t-18 (atRet En Post))
       part-4 g7 g8 g9 g10 g11 =
           calls-value ! fm (sound-no.signature .params) u8 (sound-no.ended .kept) (sound-no.clauses 𝓤 H A mem run) known-sound-no (bool-vals, (bool-vals, (bool-vals, (bool-vals, (bool-vals, tt))))) (bool-makes 𝓤 H A W, (bool-makes 𝓤 H A W, (bool-makes 𝓤 H A W, (bool-makes 𝓤 H A W, (bool-makes 𝓤 H A W, tt))))) (vint w8) (uint-tells w8)
-          (all-sized, (p, (a, (l, (m, tt))))) (g7, (g8, (g9, (g10, (g11, tt))))) tt (id⊢ 𝓤 (emp 𝓤)) k (λ r e′. id⊢ 𝓤 (fact 𝓤 (r ≡ k))) (and-local ! 35 refl (and-local ! 34 refl (and-local ! 33 refl (and-local ! 32 refl (and-local ! 31 refl (no-more !)))))) (λ g12.
+          (all-sized, (p, (a, (l, (m, tt))))) (g7, (g8, (g9, (g10, (g11, tt))))) tt (id⊢ 𝓤 (emp 𝓤)) k (λ r e′. id⊢ 𝓤 (fact 𝓤 (r ≡ k))) (locals ! (35 ∷ 34 ∷ 33 ∷ 32 ∷ 31 ∷ []) (refl, (refl, (refl, (refl, (refl, tt)))))) (λ g12.
           land-in ! 29 refl (tt, record { fits = g12 .1 }) $
           calls-value ! fm (once-if.signature .params) u8 (once-if.ended .kept) (once-if.clauses 𝓤 H A mem run) known-once-if (uint-vals w8, tt) (uint-makes 𝓤 H A W w8, tt) (vint w8) (uint-tells w8)
-          (k, tt) (g12, tt) tt (id⊢ 𝓤 (emp 𝓤)) n (λ r e′. id⊢ 𝓤 (fact 𝓤 (r ≡ n))) (and-local ! 30 refl (no-more !)) (λ g13.
+          (k, tt) (g12, tt) tt (id⊢ 𝓤 (emp 𝓤)) n (λ r e′. id⊢ 𝓤 (fact 𝓤 (r ≡ n))) (locals ! (30 ∷ []) (refl, tt)) (λ g13.
           land-in ! 28 refl (tt, record { fits = g13 .1 }) $
           part-5 g7 g8 g9 g10 g11 g12 g13))
 
@@ -304,12 +304,12 @@ module _ {M : Type 1} (𝓤 : URA M) (H : Heap 𝓤) (A : Atoms 𝓤) (W : Given
           lends-again ! 37 19 18 refl refl refl refl (tt, tt) refl refl (tt, (tt, (record { fits = room₂ .0 }, tt))) refl $
           move ! (4 ∷ 5 ∷ []) $
           calls-shared ! fm Le.the-row (plain (λ _. Sz.the-row) ∷ []) bool (yes, tt) vbool bool-tells b₂ o₂ n₂ ls refl (λ ν. (valsSz, tt)) (λ ν. (makesSz, tt)) (λ ν. (z, tt)) (λ ν. (gz, tt))
-          (learners-in-range.clauses 𝓤 H A mem run) known-learners-in-range l (λ ν δ. tt) (λ ν δ. id⊢ 𝓤 (emp 𝓤)) (λ ν δ r e′. id⊢ 𝓤 (fact 𝓤 (r ≡ l))) (λ ν δ. (and-local ! 21 refl (and-local ! 43 refl (no-more !)))) (λ g10.
+          (learners-in-range.clauses 𝓤 H A mem run) known-learners-in-range l (λ ν δ. tt) (λ ν δ. id⊢ 𝓤 (emp 𝓤)) (λ ν δ r e′. id⊢ 𝓤 (fact 𝓤 (r ≡ l))) (λ ν δ. (locals ! (21 ∷ 43 ∷ []) (refl, (refl, tt)))) (λ g10.
           land-in ! 31 refl (tt, tt) $
           lends-again ! 36 17 16 refl refl refl refl (tt, tt) refl refl (tt, (tt, (record { fits = room₃ .0 }, tt))) refl $
           move ! (6 ∷ 7 ∷ []) $
           calls-shared ! fm Ms.the-row (plain (λ _. Sz.the-row) ∷ []) bool (yes, tt) vbool bool-tells b₃ o₃ n₃ t refl (λ ν. (valsSz, tt)) (λ ν. (makesSz, tt)) (λ ν. (z, tt)) (λ ν. (gz, tt))
-          (messages-in-range.clauses 𝓤 H A mem run) known-messages-in-range m (λ ν δ. tt) (λ ν δ. id⊢ 𝓤 (emp 𝓤)) (λ ν δ r e′. id⊢ 𝓤 (fact 𝓤 (r ≡ m))) (λ ν δ. (and-local ! 19 refl (and-local ! 43 refl (no-more !)))) (λ g11.
+          (messages-in-range.clauses 𝓤 H A mem run) known-messages-in-range m (λ ν δ. tt) (λ ν δ. id⊢ 𝓤 (emp 𝓤)) (λ ν δ r e′. id⊢ 𝓤 (fact 𝓤 (r ≡ m))) (λ ν δ. (locals ! (19 ∷ 43 ∷ []) (refl, (refl, tt)))) (λ g11.
           land-in ! 30 refl (tt, tt) $
           forget ! 19 refl $
           forget ! 18 refl $
@@ -322,12 +322,12 @@ module _ {M : Type 1} (𝓤 : URA M) (H : Heap 𝓤) (A : Atoms 𝓤) (W : Given
       part-2 g7 =
           lends-again ! 39 23 22 refl refl refl refl (tt, tt) refl refl (tt, (tt, (record { fits = room₀ .0 }, tt))) refl $
           calls-shared ! fm Pr.the-row (plain (λ _. Sz.the-row) ∷ []) bool (yes, tt) vbool bool-tells b₀ o₀ n₀ ps refl (λ ν. (valsSz, tt)) (λ ν. (makesSz, tt)) (λ ν. (z, tt)) (λ ν. (gz, tt))
-          (proposers-in-range.clauses 𝓤 H A mem run) known-proposers-in-range p (λ ν δ. tt) (λ ν δ. id⊢ 𝓤 (emp 𝓤)) (λ ν δ r e′. id⊢ 𝓤 (fact 𝓤 (r ≡ p))) (λ ν δ. (and-local ! 25 refl (and-local ! 43 refl (no-more !)))) (λ g8.
+          (proposers-in-range.clauses 𝓤 H A mem run) known-proposers-in-range p (λ ν δ. tt) (λ ν δ. id⊢ 𝓤 (emp 𝓤)) (λ ν δ r e′. id⊢ 𝓤 (fact 𝓤 (r ≡ p))) (λ ν δ. (locals ! (25 ∷ 43 ∷ []) (refl, (refl, tt)))) (λ g8.
           land-in ! 33 refl (tt, tt) $
           lends-again ! 38 21 20 refl refl refl refl (tt, tt) refl refl (tt, (tt, (record { fits = room₁ .0 }, tt))) refl $
           move ! (2 ∷ 3 ∷ []) $
           calls-shared ! fm Ac.the-row (plain (λ _. Sz.the-row) ∷ []) bool (yes, tt) vbool bool-tells b₁ o₁ n₁ acs refl (λ ν. (valsSz, tt)) (λ ν. (makesSz, tt)) (λ ν. (z, tt)) (λ ν. (gz, tt))
-          (acceptors-in-range.clauses 𝓤 H A mem run) known-acceptors-in-range a (λ ν δ. tt) (λ ν δ. id⊢ 𝓤 (emp 𝓤)) (λ ν δ r e′. id⊢ 𝓤 (fact 𝓤 (r ≡ a))) (λ ν δ. (and-local ! 23 refl (and-local ! 43 refl (no-more !)))) (λ g9.
+          (acceptors-in-range.clauses 𝓤 H A mem run) known-acceptors-in-range a (λ ν δ. tt) (λ ν δ. id⊢ 𝓤 (emp 𝓤)) (λ ν δ r e′. id⊢ 𝓤 (fact 𝓤 (r ≡ a))) (λ ν δ. (locals ! (23 ∷ 43 ∷ []) (refl, (refl, tt)))) (λ g9.
           land-in ! 32 refl (tt, tt) $
           forget ! 23 refl $
           forget ! 22 refl $
@@ -343,7 +343,7 @@ module _ {M : Type 1} (𝓤 : URA M) (H : Heap 𝓤) (A : Atoms 𝓤) (W : Given
           assigns ! (of-opd ! (reads ! (from ! (fld ! refl (stop !))) (look-in ! 37 (sub ! 1 refl (whole !))))) (from ! (stop !)) (init ! 25 refl (tt, record { fits = room₂ .0 })) $
           assigns ! (of-opd ! (reads ! (from ! (fld ! refl (stop !))) (look-in ! 36 (sub ! 1 refl (whole !))))) (from ! (stop !)) (init ! 24 refl (tt, record { fits = room₃ .0 })) $
           calls-value ! fm (sized.signature .params) bool (sized.ended .kept) (sized.clauses 𝓤 H A mem run) known-sized (valsSz, (uint-vals w64, (uint-vals w64, (uint-vals w64, (uint-vals w64, tt))))) (makesSz, (uint-makes 𝓤 H A W w64, (uint-makes 𝓤 H A W w64, (uint-makes 𝓤 H A W w64, (uint-makes 𝓤 H A W w64, tt))))) vbool bool-tells
-          (z, (n₀, (n₁, (n₂, (n₃, tt))))) (gz, ((refl, room₀ .0), ((refl, room₁ .0), ((refl, room₂ .0), ((refl, room₃ .0), tt))))) tt (id⊢ 𝓤 (emp 𝓤)) all-sized (λ r e′. id⊢ 𝓤 (fact 𝓤 (r ≡ all-sized))) (and-local ! 41 refl (and-local ! 28 refl (and-local ! 27 refl (and-local ! 26 refl (and-local ! 25 refl (no-more !)))))) (λ g7.
+          (z, (n₀, (n₁, (n₂, (n₃, tt))))) (gz, ((refl, room₀ .0), ((refl, room₁ .0), ((refl, room₂ .0), ((refl, room₃ .0), tt))))) tt (id⊢ 𝓤 (emp 𝓤)) all-sized (λ r e′. id⊢ 𝓤 (fact 𝓤 (r ≡ all-sized))) (locals ! (41 ∷ 28 ∷ 27 ∷ 26 ∷ 25 ∷ []) (refl, (refl, (refl, (refl, (refl, tt)))))) (λ g7.
           land-in ! 34 refl (tt, tt) $
           forget ! 27 refl $
           forget ! 26 refl $

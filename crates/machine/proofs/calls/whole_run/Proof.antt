@@ -44,7 +44,7 @@ use Rattle.machine.specs.Running.{Ran, driven, Drives}
 use Rattle.machine.specs.Calls.{wholeRunNo}
 use Rattle.machine.specs.Counting.{eventsNo, turnsOf}
 use Rattle.machine.proofs.Frees.{full, bare, allocates, frees-all}
-use Rattle.machine.proofs.Moves.{and-local, land-in, lends-again}
+use Rattle.machine.proofs.Moves.{locals, land-in, lends-again}
 use Rattle.machine.proofs.Relending.{Slice, listAt}
 use Rattle.machine.proofs.CallsByValue.{calls-value}
 use Rattle.machine.proofs.CallsWithSlices.{passed, lent, handed, calls}
@@ -343,7 +343,7 @@ module _ {M : Type 1} (𝓤 : URA M) (H : Heap 𝓤) (A : Atoms 𝓤) (W : Given
           ∷ handed u64 κ₀ q₀ γ₀ b₀ o₀ events
           ∷ lent u64 κ₁ q₁ γ₁ b₁ o₁ n₁ log (done′ .log) refl room₁
           ∷ passed usize (uint-vals w64) (uint-makes 𝓤 H A W w64) turns g7 ∷ [])
-          Nothing (drive.clauses 𝓤 H A mem run) known-drive (λ _. vunit) nothing-tells tt (λ w. tt) (λ w. factI 𝓤 _ (emp 𝓤) drives) (λ w v ws. fact-mono 𝓤 ((ws .1 .0 ≡ (done′ .proposers)) × ((ws .1 .1 .0 ≡ (done′ .acceptors)) × ((ws .1 .1 .1 .0 ≡ (done′ .learners)) × ((ws .1 .1 .1 .1 .0 ≡ (done′ .slots)) × ((ws .1 .1 .1 .1 .1 .1 .0 ≡ (done′ .log))))))) ((v ≡ tt) × ((ws .1 .0 ≡ (done′ .proposers)) × ((ws .1 .1 .0 ≡ (done′ .acceptors)) × ((ws .1 .1 .1 .0 ≡ (done′ .learners)) × ((ws .1 .1 .1 .1 .0 ≡ (done′ .slots)) × ((ws .1 .1 .1 .1 .1 .1 .0 ≡ (done′ .log)))))))) (λ e′. (refl, e′))) (λ w. (and-local ! 32 refl (and-local ! 10 refl (and-local ! 8 refl (and-local ! 6 refl (and-local ! 4 refl (and-local ! 31 refl (and-local ! 2 refl (and-local ! 26 refl (no-more !)))))))))) (λ _ e19.
+          Nothing (drive.clauses 𝓤 H A mem run) known-drive (λ _. vunit) nothing-tells tt (λ w. tt) (λ w. factI 𝓤 _ (emp 𝓤) drives) (λ w v ws. fact-mono 𝓤 ((ws .1 .0 ≡ (done′ .proposers)) × ((ws .1 .1 .0 ≡ (done′ .acceptors)) × ((ws .1 .1 .1 .0 ≡ (done′ .learners)) × ((ws .1 .1 .1 .1 .0 ≡ (done′ .slots)) × ((ws .1 .1 .1 .1 .1 .1 .0 ≡ (done′ .log))))))) ((v ≡ tt) × ((ws .1 .0 ≡ (done′ .proposers)) × ((ws .1 .1 .0 ≡ (done′ .acceptors)) × ((ws .1 .1 .1 .0 ≡ (done′ .learners)) × ((ws .1 .1 .1 .1 .0 ≡ (done′ .slots)) × ((ws .1 .1 .1 .1 .1 .1 .0 ≡ (done′ .log)))))))) (λ e′. (refl, e′))) (λ w. (locals ! (32 ∷ 10 ∷ 8 ∷ 6 ∷ 4 ∷ 31 ∷ 2 ∷ 26 ∷ []) (refl, (refl, (refl, (refl, (refl, (refl, (refl, (refl, tt)))))))))) (λ _ e19.
           land-in ! 24 refl (tt, tt) $
           takes-own ! tt 31 Pr.the-row valPr (LL.tells Pr.the-type Pr′.the-laws) 8 (done′ .proposers) l₁₀ refl $
           takes-own ! tt 27 Ac.the-row valAc (LL.tells Ac.the-type Ac′.the-laws) 7 (done′ .acceptors) l₁₂ refl $
@@ -359,7 +359,7 @@ module _ {M : Type 1} (𝓤 : URA M) (H : Heap 𝓤) (A : Atoms 𝓤) (W : Given
           assigns ! (addr ! (from ! (stop !))) (from ! (stop !)) (init ! 23 refl (tt, tt)) $
           assigns ! (agg ! (and-then ! (reads ! (from ! (stop !)) (look ! 23 refl)) (and-then ! (lit ! tt) (no-more !)))) (from ! (stop !)) (init ! 22 refl (tt, (tt, (record { fits = lit< tt }, tt)))) $
           calls-lent ! fm Ms.the-row (plain (λ _. usize) ∷ []) Nothing (yes, tt) (λ _. vunit) nothing-tells l₁₆ 0 512 t₀ long₅ (λ ν. (uint-vals w64, tt)) (λ ν. (uint-makes 𝓤 H A W w64, tt)) (λ ν. (mn, tt)) (λ ν. (g8, tt))
-          (fill-messages.clauses 𝓤 H A mem run) known-fill-messages room₅ tt t′ (λ ν δ. tt) (λ ν δ. factI 𝓤 _ (emp 𝓤) in-m) (λ ν δ r ws. fact-mono 𝓤 (ws .0 ≡ t′) ((r ≡ tt) × (ws .0 ≡ t′)) (λ e′. (refl, e′))) (λ ν δ. (and-local ! 22 refl (and-local ! 35 refl (no-more !)))) (λ _ e21.
+          (fill-messages.clauses 𝓤 H A mem run) known-fill-messages room₅ tt t′ (λ ν δ. tt) (λ ν δ. factI 𝓤 _ (emp 𝓤) in-m) (λ ν δ r ws. fact-mono 𝓤 (ws .0 ≡ t′) ((r ≡ tt) × (ws .0 ≡ t′)) (λ e′. (refl, e′))) (λ ν δ. (locals ! (22 ∷ 35 ∷ []) (refl, (refl, tt)))) (λ _ e21.
           land-in ! 24 refl (tt, tt) $
           forget ! 24 refl $
           forget ! 23 refl $
@@ -410,10 +410,10 @@ module _ {M : Type 1} (𝓤 : URA M) (H : Heap 𝓤) (A : Atoms 𝓤) (W : Given
           ∷ ‵ (froom (sliceTy (tyRef erased mut (pointee (u64 .written)))) l₃₁ 0) ∷ ‵ (froom (tyRef erased mut (pointee (u64 .written))) l₃₀ 0) ∷ ‵ (froom (sliceTy (tyRef erased mut (pointee (Ms.the-row .written)))) l₂₉ 0) ∷ ‵ (froom (tyRef erased mut (tyArray (pointee (Ms.the-row .written)) 512)) l₂₈ 0) ∷ ‵ (froom (sliceTy (tyRef erased mut (pointee (Le.the-row .written)))) l₂₇ 0) ∷ ‵ (froom (tyRef erased mut (tyArray (pointee (Le.the-row .written)) 8)) l₂₆ 0) ∷ ‵ (froom (sliceTy (tyRef erased mut (pointee (Ac.the-row .written)))) l₂₅ 0) ∷ ‵ (froom (tyRef erased mut (tyArray (pointee (Ac.the-row .written)) 7)) l₂₄ 0) ∷ ‵ (froom (sliceTy (tyRef erased mut (pointee (Pr.the-row .written)))) l₂₃ 0) ∷ ‵ (froom (tyRef erased mut (tyArray (pointee (Pr.the-row .written)) 8)) l₂₂ 0) ∷ ‵ (froom (sliceTy (tyRef erased mut (pointee (Ms.the-row .written)))) l₂₁ 0) ∷ ‵ (froom (tyRef erased mut (tyArray (pointee (Ms.the-row .written)) 512)) l₂₀ 0) ∷ ‵ (froom tyUnit l₁₉ 0) ∷ ‵ (froom word l₁₈ 0) ∷ ‵ (froom word l₁₇ 0) ∷ ‵ (froom (tyArray Ms′.mir 512) l₁₆ 0) ∷ ‵ (froom Ms′.mir l₁₅ 0) ∷ ‵ (froom (tyArray Le′.mir 8) l₁₄ 0) ∷ ‵ (froom Le′.mir l₁₃ 0) ∷ ‵ (froom (tyArray Ac′.mir 7) l₁₂ 0) ∷ ‵ (froom Ac′.mir l₁₁ 0) ∷ ‵ (froom (tyArray Pr′.mir 8) l₁₀ 0) ∷ ‵ (froom Pr′.mir l₉ 0) ∷ ‵ (froom word l₈ 0) ∷ ‵ (froom word l₇ 0) ∷ ‵ (fat fullShare byte l₆ 0 (vint w8 k)) ∷ ‵ (fat fullShare byte l₅ 0 (vint w8 counted)) ∷ ‵ (fat fullShare half l₄ 0 (vint w16 n)) ∷ ‵ (fat fullShare (sliceTy (tyRef (named 1) mut (pointee (u64 .written)))) l₃ 0 s₁) ∷ ‵ (fat fullShare (sliceTy (tyRef (named 0) imm (pointee (u64 .written)))) l₂ 0 s₀) ∷ ‵ (fat fullShare Sz′.mir l₁ 0 (valSz z)) ∷ ‵ (froom byte l₀ 0) ∷ Dies ∷ []) (runs C Λ En pieces.t-5 (atRet En Post))
       part-2 g5 g6 =
           calls-value ! fm (count-if.signature .params) usize (count-if.ended .kept) (count-if.clauses 𝓤 H A mem run) known-count-if (uint-vals w8, (uint-vals w16, tt)) (uint-makes 𝓤 H A W w8, (uint-makes 𝓤 H A W w16, tt)) (vint w64) (uint-tells w64)
-          (k, (n, tt)) (g6, (gn, tt)) tt (id⊢ 𝓤 (emp 𝓤)) turns (λ r e′. id⊢ 𝓤 (fact 𝓤 (r ≡ turns))) (and-local ! 30 refl (and-local ! 32 refl (no-more !))) (λ g7.
+          (k, (n, tt)) (g6, (gn, tt)) tt (id⊢ 𝓤 (emp 𝓤)) turns (λ r e′. id⊢ 𝓤 (fact 𝓤 (r ≡ turns))) (locals ! (30 ∷ 32 ∷ []) (refl, (refl, tt))) (λ g7.
           land-in ! 28 refl (tt, record { fits = g7 .1 }) $
           calls-value ! fm (slots-if.signature .params) usize (slots-if.ended .kept) (slots-if.clauses 𝓤 H A mem run) known-slots-if (uint-vals w8, (valsSz, tt)) (uint-makes 𝓤 H A W w8, (makesSz, tt)) (vint w64) (uint-tells w64)
-          (k, (z, tt)) (g6, (gz, tt)) tt (id⊢ 𝓤 (emp 𝓤)) mn (λ r e′. id⊢ 𝓤 (fact 𝓤 (r ≡ mn))) (and-local ! 30 refl (and-local ! 35 refl (no-more !))) (λ g8.
+          (k, (z, tt)) (g6, (gz, tt)) tt (id⊢ 𝓤 (emp 𝓤)) mn (λ r e′. id⊢ 𝓤 (fact 𝓤 (r ≡ mn))) (locals ! (30 ∷ 35 ∷ []) (refl, (refl, tt))) (λ g8.
           land-in ! 27 refl (tt, record { fits = g8 .1 }) $
           part-3 g5 g6 g7 g8))
 
@@ -423,10 +423,10 @@ module _ {M : Type 1} (𝓤 : URA M) (H : Heap 𝓤) (A : Atoms 𝓤) (W : Given
           assigns ! (of-opd ! (reads ! (from ! (fld ! refl (stop !))) (look-in ! 33 (sub ! 1 refl (whole !))))) (from ! (stop !)) (init ! 18 refl (tt, record { fits = room₀ .0 })) $
           assigns ! (of-opd ! (reads ! (from ! (fld ! refl (stop !))) (look-in ! 32 (sub ! 1 refl (whole !))))) (from ! (stop !)) (init ! 17 refl (tt, record { fits = room₁ .0 })) $
           calls-value ! fm (events-no.signature .params) u8 (events-no.ended .kept) (events-no.clauses 𝓤 H A mem run) known-events-no (uint-vals w64, (uint-vals w64, (uint-vals w16, tt))) (uint-makes 𝓤 H A W w64, (uint-makes 𝓤 H A W w64, (uint-makes 𝓤 H A W w16, tt))) (vint w8) (uint-tells w8)
-          (n₀, (n₁, (n, tt))) ((refl, room₀ .0), ((refl, room₁ .0), (gn, tt))) tt (id⊢ 𝓤 (emp 𝓤)) counted (λ r e′. id⊢ 𝓤 (fact 𝓤 (r ≡ counted))) (and-local ! 19 refl (and-local ! 18 refl (and-local ! 32 refl (no-more !)))) (λ g5.
+          (n₀, (n₁, (n, tt))) ((refl, room₀ .0), ((refl, room₁ .0), (gn, tt))) tt (id⊢ 𝓤 (emp 𝓤)) counted (λ r e′. id⊢ 𝓤 (fact 𝓤 (r ≡ counted))) (locals ! (19 ∷ 18 ∷ 32 ∷ []) (refl, (refl, (refl, tt)))) (λ g5.
           land-in ! 30 refl (tt, record { fits = g5 .1 }) $
           calls-value ! fm (whole-run-no.signature .params) u8 (whole-run-no.ended .kept) (whole-run-no.clauses 𝓤 H A mem run) known-whole-run-no (valsSz, (uint-vals w8, tt)) (makesSz, (uint-makes 𝓤 H A W w8, tt)) (vint w8) (uint-tells w8)
-          (z, (counted, tt)) (gz, (g5, tt)) tt (id⊢ 𝓤 (emp 𝓤)) k (λ r e′. id⊢ 𝓤 (fact 𝓤 (r ≡ k))) (and-local ! 35 refl (and-local ! 31 refl (no-more !))) (λ g6.
+          (z, (counted, tt)) (gz, (g5, tt)) tt (id⊢ 𝓤 (emp 𝓤)) k (λ r e′. id⊢ 𝓤 (fact 𝓤 (r ≡ k))) (locals ! (35 ∷ 31 ∷ []) (refl, (refl, tt))) (λ g6.
           land-in ! 29 refl (tt, record { fits = g6 .1 }) $
           forget ! 18 refl $
           forget ! 17 refl $

@@ -19,7 +19,7 @@ use contract.Monad.{Fun, fact}
 use contract.Running.{givenOf, tables, tablesOf}
 use types.Kit.{Given, Item, ‵, _⊛_, ⋆, runs, atRet, Sq, _$_, _∵_, !, qed, by, move, keep, rewrite, split, join, fsplit, fjoin, suffices, frame, done}
 use types.Part.{whole, sub, look-in}
-use types.Run.{look, init, store, stop, hop, fld, from, load as reads, lit, addr, of-opd, bin, no-more, assigns, returns, enter, params1, pass1, pass0}
+use types.Run.{look, init, store, stop, hop, fld, from, load as reads, lit, addr, of-opd, bin, assigns, returns, enter, params1, pass1, pass0}
 use sound.WpLaws.{FmC, fmOf, WpFn-mono}
 use denote.RattleType.{owns}
 use denote.Laws.{Is, Makes, shows}
@@ -43,7 +43,7 @@ use Rattle.choice.specs.Choice.{if_then_else_}
 use Rattle.model.specs.Records.{freshLearner, unheard}
 use Rattle.machine.specs.Roles.{placeOf, earOf, putEar}
 use Rattle.machine.proofs.Frees.{full, allocates, frees-all}
-use Rattle.machine.proofs.Moves.{and-local, land-in}
+use Rattle.machine.proofs.Moves.{locals, land-in}
 use Rattle.machine.proofs.Relending.{listAt}
 use Rattle.machine.proofs.CallsByValue.{calls-value}
 use Rattle.machine.proofs.WalkedLoops.{fits-place}
@@ -206,7 +206,7 @@ module _ {M : Type 1} (𝓤 : URA M) (H : Heap 𝓤) (A : Atoms 𝓤) (W : Given
           ∷ ‵ (froom He′.mir l₁₅ 0) ∷ ‵ (froom tyPtr l₁₄ 0) ∷ ‵ (froom tyPtr l₁₃ 0) ∷ ‵ (froom word l₁₂ 0) ∷ ‵ (froom tyPtr l₁₁ 0) ∷ ‵ (froom tyPtr l₁₀ 0) ∷ ‵ (froom tyPtr l₉ 0) ∷ ‵ (froom word l₈ 0) ∷ ‵ (froom He′.mir l₇ 0) ∷ ‵ (froom Sc′.mir l₆ 0) ∷ ‵ (froom tyBool l₅ 0) ∷ ‵ (froom word l₄ 0) ∷ ‵ (fat fullShare Pi′.mir l₃ 0 (valPi p)) ∷ ‵ (fat fullShare word l₂ 0 (vint w64 i)) ∷ ‵ (fat fullShare (sliceTy (tyRef (named 0) imm (pointee (Le.the-row .written)))) l₁ 0 s₀) ∷ ‵ (froom Ea′.mir l₀ 0) ∷ Dies ∷ []) (runs C Λ En pieces.t-1 (atRet En Post))
       part-1 =
           calls-value ! fm (place-of.signature .params) usize (place-of.ended .kept) (place-of.clauses 𝓤 H A mem run) known-place-of (valsPi, tt) (makesPi, tt) (vint w64) (uint-tells w64)
-          (p, tt) (gp, tt) tt (id⊢ 𝓤 (emp 𝓤)) pl (λ r e′. id⊢ 𝓤 (fact 𝓤 (r ≡ pl))) (and-local ! 15 refl (no-more !)) (λ g4.
+          (p, tt) (gp, tt) tt (id⊢ 𝓤 (emp 𝓤)) pl (λ r e′. id⊢ 𝓤 (fact 𝓤 (r ≡ pl))) (locals ! (15 ∷ []) (refl, tt)) (λ g4.
           land-in ! 13 refl (tt, record { fits = g4 .1 }) $
           fsplit ! $ move ! (1 ∷ []) $ fsplit ! $ move ! (1 ∷ 3 ∷ []) $
           looks-slice ! tt Le.the-row (Is Le.the-row) (shows 𝓤 H A Le.the-row) valsLe (LL.tells Le.the-type Le′.the-laws) (LL.copy Le.the-type Le′.the-copy 𝓤 H A W) t b₀ o₀ (λ q′.
@@ -233,7 +233,7 @@ module _ {M : Type 1} (𝓤 : URA M) (H : Heap 𝓤) (A : Atoms 𝓤) (W : Given
           elem-back ! Le.the-row q′ t i freshLearner (valsLe elem) b₀ o₀ in-i $ shuts-slice ! tt Le.the-row q′ t b₀ o₀ $
           move ! (2 ∷ 1 ∷ []) $ fjoin ! $ move ! (2 ∷ 0 ∷ []) $ fjoin ! $
           calls-value ! fm (ear-of.signature .params) Ea.the-row (ear-of.ended .kept) (ear-of.clauses 𝓤 H A mem run) known-ear-of (valsPi, (bool-vals, (valsSc, (valsHe, tt)))) (makesPi, (bool-makes 𝓤 H A W, (makesSc, (makesHe, tt)))) valEa (LL.tells Ea.the-type Ea′.the-laws)
-          (p, ((elem .alive), ((elem .learnt), (h₀, tt)))) (gp, ((is-alive elem g), ((is-set elem g), ((one-heard elem g pl (place-below (p .0))), tt)))) tt (id⊢ 𝓤 (emp 𝓤)) x₀ (λ r e′. id⊢ 𝓤 (fact 𝓤 (r ≡ x₀))) (and-local ! 15 refl (and-local ! 13 refl (and-local ! 12 refl (and-local ! 11 refl (no-more !))))) (λ g0.
+          (p, ((elem .alive), ((elem .learnt), (h₀, tt)))) (gp, ((is-alive elem g), ((is-set elem g), ((one-heard elem g pl (place-below (p .0))), tt)))) tt (id⊢ 𝓤 (emp 𝓤)) x₀ (λ r e′. id⊢ 𝓤 (fact 𝓤 (r ≡ x₀))) (locals ! (15 ∷ 13 ∷ 12 ∷ 11 ∷ []) (refl, (refl, (refl, (refl, tt))))) (λ g0.
           land-in ! 17 refl (typedEa x₀ g0) $
           returns ! (look ! 17 refl) $ frees-all ! 2 (full _ _ _ ∷ full _ _ _ ∷ full _ _ _ ∷ full _ _ _ ∷ full _ _ _ ∷ full _ _ _ ∷ full _ _ _ ∷ full _ _ _ ∷ full _ _ _ ∷ full _ _ _ ∷ full _ _ _ ∷ full _ _ _ ∷ full _ _ _ ∷ full _ _ _ ∷ full _ _ _ ∷ full _ _ _ ∷ []) refl refl $
           keep ! (0 ∷ 1 ∷ []) $ by ! (exits (eight-heard elem g) g0)))))

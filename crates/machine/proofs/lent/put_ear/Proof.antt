@@ -20,7 +20,7 @@ use contract.Monad.{Fun, fact}
 use contract.Running.{givenOf, tables, tablesOf}
 use types.Kit.{Given, Item, ‵, _⊛_, ⋆, runs, atRet, Sq, _$_, _∵_, !, qed, by, move, keep, drop, rewrite, split, join, fsplit, fjoin, feqI, suffices, frame, done}
 use types.Part.{whole, sub, look-in, store-in}
-use types.Run.{look, init, store, stop, hop, fld, from, load as reads, lit, unit-lit, addr, of-opd, bin, no-more, assigns, returns, enter, params1, pass1, pass0}
+use types.Run.{look, init, store, stop, hop, fld, from, load as reads, lit, unit-lit, addr, of-opd, bin, assigns, returns, enter, params1, pass1, pass0}
 use sound.WpLaws.{FmC, fmOf, WpFn-mono}
 use denote.RattleType.{owns}
 use denote.Laws.{Is, Makes, shows}
@@ -45,7 +45,7 @@ use Rattle.choice.specs.Choice.{if_then_else_}
 use Rattle.model.specs.Records.{freshLearner, unheard}
 use Rattle.machine.specs.Roles.{placeOf, earOf, putEar}
 use Rattle.machine.proofs.Frees.{full, allocates, frees-all}
-use Rattle.machine.proofs.Moves.{and-local, land-in}
+use Rattle.machine.proofs.Moves.{locals, land-in}
 use Rattle.machine.proofs.Relending.{Slice, listAt}
 use Rattle.machine.proofs.CallsByValue.{calls-value}
 use Rattle.machine.proofs.WalkedLoops.{fits-place}
@@ -214,7 +214,7 @@ module _ {M : Type 1} (𝓤 : URA M) (H : Heap 𝓤) (A : Atoms 𝓤) (W : Given
           ∷ ‵ (froom tyPtr l₁₈ 0) ∷ ‵ (froom tyPtr l₁₇ 0) ∷ ‵ (froom tyPtr l₁₆ 0) ∷ ‵ (froom tyPtr l₁₅ 0) ∷ ‵ (froom tyPtr l₁₄ 0) ∷ ‵ (froom He′.mir l₁₃ 0) ∷ ‵ (froom tyPtr l₁₂ 0) ∷ ‵ (froom tyPtr l₁₁ 0) ∷ ‵ (froom word l₁₀ 0) ∷ ‵ (froom tyPtr l₉ 0) ∷ ‵ (froom word l₈ 0) ∷ ‵ (froom He′.mir l₇ 0) ∷ ‵ (froom He′.mir l₆ 0) ∷ ‵ (froom word l₅ 0) ∷ ‵ (fat fullShare Ea′.mir l₄ 0 (valEa x)) ∷ ‵ (fat fullShare Pi′.mir l₃ 0 (valPi p)) ∷ ‵ (fat fullShare word l₂ 0 (vint w64 i)) ∷ ‵ (fat fullShare (sliceTy (tyRef (named 0) mut (pointee (Le.the-row .written)))) l₁ 0 s₀) ∷ ‵ (froom tyUnit l₀ 0) ∷ Dies ∷ []) (runs C Λ En pieces.t-1 (atRet En Post))
       part-1 =
           calls-value ! fm (place-of.signature .params) usize (place-of.ended .kept) (place-of.clauses 𝓤 H A mem run) known-place-of (valsPi, tt) (makesPi, tt) (vint w64) (uint-tells w64)
-          (p, tt) (gp, tt) tt (id⊢ 𝓤 (emp 𝓤)) pl (λ r e′. id⊢ 𝓤 (fact 𝓤 (r ≡ pl))) (and-local ! 18 refl (no-more !)) (λ g5.
+          (p, tt) (gp, tt) tt (id⊢ 𝓤 (emp 𝓤)) pl (λ r e′. id⊢ 𝓤 (fact 𝓤 (r ≡ pl))) (locals ! (18 ∷ []) (refl, tt)) (λ g5.
           land-in ! 15 refl (tt, record { fits = g5 .1 }) $
           fsplit ! $ move ! (1 ∷ []) $ fsplit ! $ move ! (0 ∷ 1 ∷ 3 ∷ []) $ opens-slice ! tt Le.the-row t b₀ o₀ $
           elem-out ! Le.the-row (Is Le.the-row) (shows 𝓤 H A Le.the-row) valsLe (LL.tells Le.the-type Le′.the-laws) fullShare t i freshLearner b₀ o₀ in-i (λ g.
@@ -230,7 +230,7 @@ module _ {M : Type 1} (𝓤 : URA M) (H : Heap 𝓤) (A : Atoms 𝓤) (W : Given
           rewrite ! 12 (λ (v : Val). ‵ (fat fullShare He′.mir l₁₃ 0 v)) (value-at (elem .heard) pl) refl $
           assigns ! (of-opd ! (reads ! (from ! (stop !)) (look ! 12 refl))) (from ! (stop !)) (init ! 19 refl (typedHe h₀ (one-heard elem g pl (place-below (p .0))))) $
           calls-value ! fm (held-in.signature .params) He.the-row (held-in.ended .kept) (held-in.clauses 𝓤 H A mem run) known-held-in (valsPi, (valsEa, (valsHe, tt))) (makesPi, (makesEa, (makesHe, tt))) valHe (LL.tells He.the-type He′.the-laws)
-          (p, (x, (h₀, tt))) (gp, (gx, ((one-heard elem g pl (place-below (p .0))), tt))) tt (id⊢ 𝓤 (emp 𝓤)) h₁ (λ r e′. id⊢ 𝓤 (fact 𝓤 (r ≡ h₁))) (and-local ! 23 refl (and-local ! 22 refl (and-local ! 20 refl (no-more !)))) (λ g7.
+          (p, (x, (h₀, tt))) (gp, (gx, ((one-heard elem g pl (place-below (p .0))), tt))) tt (id⊢ 𝓤 (emp 𝓤)) h₁ (λ r e′. id⊢ 𝓤 (fact 𝓤 (r ≡ h₁))) (locals ! (23 ∷ 22 ∷ 20 ∷ []) (refl, (refl, (refl, tt)))) (λ g7.
           land-in ! 18 refl (typedHe h₁ g7) $
           assigns ! (bin ! (reads ! (from ! (stop !)) (look ! 23 refl)) (lit ! tt) (record { fits = fits-place 208 i (length t) in-i (room₀ .1) })) (from ! (stop !)) (store ! 17 refl (tt, record { fits = fits-place 208 i (length t) in-i (room₀ .1) })) $
           assigns ! (bin ! (reads ! (from ! (fld ! refl (stop !))) (look-in ! 24 (sub ! 0 refl (whole !)))) (reads ! (from ! (stop !)) (look ! 17 refl)) tt) (from ! (stop !)) (init ! 11 refl (tt, tt)) $

@@ -18,7 +18,7 @@ use ghost.Atoms.{Atoms}
 use contract.Monad.{Fun, fact, factI, fact-mono}
 use contract.Running.{givenOf, tables, tablesOf}
 use types.Kit.{Given, Item, ‵, _⊛_, ⋆, runs, atRet, Sq, _$_, _∵_, !, qed, by, move, keep, split, join, fsplit, fjoin, feqI, suffices, frame, done}
-use types.Run.{look, init, stop, from, unit-lit, of-opd, no-more, assigns, returns, enter, params1, pass1, pass0}
+use types.Run.{look, init, stop, from, unit-lit, of-opd, assigns, returns, enter, params1, pass1, pass0}
 use sound.WpLaws.{FmC, fmOf, WpFn-mono}
 use denote.RattleType.{owns}
 use denote.Laws.{Is, Makes}
@@ -39,7 +39,7 @@ use lib.ListN.{getD}
 use Rattle.model.specs.Records.{freshLearner}
 use Rattle.machine.specs.Roles.{earOf, putEar}
 use Rattle.machine.proofs.Frees.{full, allocates, frees-all}
-use Rattle.machine.proofs.Moves.{and-local, land-in, lends-again}
+use Rattle.machine.proofs.Moves.{locals, land-in, lends-again}
 use Rattle.machine.proofs.Relending.{Slice, listAt}
 use Rattle.machine.proofs.CallsByValue.{calls-value}
 use Rattle.machine.proofs.CallsLending.{calls-lent}
@@ -164,11 +164,11 @@ module _ {M : Type 1} (𝓤 : URA M) (H : Heap 𝓤) (A : Atoms 𝓤) (W : Given
           ∷ ‵ (froom (sliceTy (tyRef erased mut (pointee (Le.the-row .written)))) l₈ 0) ∷ ‵ (froom (tyRef erased mut (pointee (Le.the-row .written))) l₇ 0) ∷ ‵ (froom tyUnit l₆ 0) ∷ ‵ (froom word l₅ 0) ∷ ‵ (fat fullShare Ea′.mir l₄ 0 (valEa x)) ∷ ‵ (fat fullShare PrId′.mir l₃ 0 (valPrId p)) ∷ ‵ (fat fullShare LeId′.mir l₂ 0 (valLeId i)) ∷ ‵ (fat fullShare (sliceTy (tyRef (named 0) mut (pointee (Le.the-row .written)))) l₁ 0 s₀) ∷ ‵ (froom tyUnit l₀ 0) ∷ Dies ∷ []) (runs C Λ En pieces.t-1 (atRet En Post))
       part-1 =
           calls-value ! fm (learner-index.signature .params) usize (learner-index.ended .kept) (learner-index.clauses 𝓤 H A mem run) known-learner-index (valsLeId, tt) (makesLeId, tt) (vint w64) (uint-tells w64)
-          (i, tt) (gi, tt) tt (id⊢ 𝓤 (emp 𝓤)) (i .0) (λ r e′. id⊢ 𝓤 (fact 𝓤 (r ≡ (i .0)))) (and-local ! 9 refl (no-more !)) (λ g5.
+          (i, tt) (gi, tt) tt (id⊢ 𝓤 (emp 𝓤)) (i .0) (λ r e′. id⊢ 𝓤 (fact 𝓤 (r ≡ (i .0)))) (locals ! (9 ∷ []) (refl, tt)) (λ g5.
           land-in ! 5 refl (tt, record { fits = g5 .1 }) $
           lends-again ! 9 3 2 refl refl refl refl (tt, tt) refl refl (tt, (tt, (record { fits = room₀ .0 }, tt))) refl $
           calls-lent ! fm Le.the-row (plain (λ _. usize) ∷ plain (λ _. PrId.the-row) ∷ plain (λ _. Ea.the-row) ∷ []) Nothing (yes, (yes, (yes, tt))) (λ _. vunit) nothing-tells b₀ o₀ n₀ t refl (λ ν. (uint-vals w64, (valsPrId, (valsEa, tt)))) (λ ν. (uint-makes 𝓤 H A W w64, (makesPrId, (makesEa, tt)))) (λ ν. ((i .0), (p, (x, tt)))) (λ ν. (g5, (gp, (gx, tt))))
-          (put-ear.clauses 𝓤 H A mem run) known-put-ear room₀ tt t′ (λ ν δ. tt) (λ ν δ. factI 𝓤 _ (emp 𝓤) in-i) (λ ν δ r ws. fact-mono 𝓤 (ws .0 ≡ t′) ((r ≡ tt) × (ws .0 ≡ t′)) (λ e′. (refl, e′))) (λ ν δ. (and-local ! 2 refl (and-local ! 5 refl (and-local ! 7 refl (and-local ! 6 refl (no-more !)))))) (λ _ e8.
+          (put-ear.clauses 𝓤 H A mem run) known-put-ear room₀ tt t′ (λ ν δ. tt) (λ ν δ. factI 𝓤 _ (emp 𝓤) in-i) (λ ν δ r ws. fact-mono 𝓤 (ws .0 ≡ t′) ((r ≡ tt) × (ws .0 ≡ t′)) (λ e′. (refl, e′))) (λ ν δ. (locals ! (2 ∷ 5 ∷ 7 ∷ 6 ∷ []) (refl, (refl, (refl, (refl, tt)))))) (λ _ e8.
           land-in ! 4 refl (tt, tt) $
           assigns ! (of-opd ! (unit-lit !)) (from ! (stop !)) (init ! 10 refl (tt, tt)) $
           returns ! (look ! 10 refl) $ frees-all ! 2 (full _ _ _ ∷ full _ _ _ ∷ full _ _ _ ∷ full _ _ _ ∷ full _ _ _ ∷ full _ _ _ ∷ full _ _ _ ∷ full _ _ _ ∷ full _ _ _ ∷ []) refl refl $

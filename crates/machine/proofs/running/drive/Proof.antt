@@ -19,7 +19,7 @@ use ghost.Atoms.{Atoms}
 use contract.Monad.{Fun, factI, fact-mono}
 use contract.Running.{givenOf, tables, tablesOf}
 use types.Kit.{Given, Item, ‵, _⊛_, ⋆, runs, anyQ, atRet, Sq, _$_, _∵_, !, qed, by, move, keep, split, join, fsplit, fjoin, feqI, suffices, frame, done}
-use types.Run.{look, init, store, forget, stop, from, load as reads, lit, unit-lit, of-opd, bin, no-more, assigns, assigns-last, first, blocks, returns, enter, params1, pass1, pass0, exec, Below, again, loops}
+use types.Run.{look, init, store, forget, stop, from, load as reads, lit, unit-lit, of-opd, bin, assigns, assigns-last, first, blocks, returns, enter, params1, pass1, pass0, exec, Below, again, loops}
 use sound.WpLaws.{FmC, fmOf, WpFn-mono}
 use denote.RattleType.{owns}
 use denote.Laws.{Is, Makes}
@@ -41,7 +41,7 @@ use Rattle.machine.specs.Stepping.{Left, stepOf, Fits}
 use Rattle.machine.specs.Running.{noted, Ran, onward, ranTo, driven, Drives}
 use Rattle.machine.specs.Calls.{eventOf}
 use Rattle.machine.proofs.Frees.{full, bare, allocates, frees-all}
-use Rattle.machine.proofs.Moves.{and-local, land-in, lends-again}
+use Rattle.machine.proofs.Moves.{locals, land-in, lends-again}
 use Rattle.machine.proofs.Relending.{Slice, listAt}
 use Rattle.machine.proofs.CallsWithSlices.{passed, lent, handed, calls}
 use Rattle.machine.proofs.LoopsOverSteps.{at-end, still-fit, event-there, answer-there, ran-none, ran-next}
@@ -238,7 +238,7 @@ module _ {M : Type 1} (𝓤 : URA M) (H : Heap 𝓤) (A : Atoms 𝓤) (W : Given
           move ! (8 ∷ 9 ∷ []) $
           calls ! fm (handed u64 κ₄ q₄ γ₄ b₄ o₄ events
           ∷ passed usize (uint-vals w64) (uint-makes 𝓤 H A W w64) k (refl, gk on) ∷ [])
-          Ev.the-row (event-at.clauses 𝓤 H A mem run) known-event-at valEv (LL.tells Ev.the-type Ev′.the-laws) e (λ w. tt) (λ w. factI 𝓤 _ (emp 𝓤) (event-there k n n₄ (low on) (fitting on .1 .0))) (λ w v ws. id⊢ 𝓤 _) (λ w. (and-local ! 29 refl (and-local ! 26 refl (no-more !)))) (λ g10 e10.
+          Ev.the-row (event-at.clauses 𝓤 H A mem run) known-event-at valEv (LL.tells Ev.the-type Ev′.the-laws) e (λ w. tt) (λ w. factI 𝓤 _ (emp 𝓤) (event-there k n n₄ (low on) (fitting on .1 .0))) (λ w v ws. id⊢ 𝓤 _) (λ w. (locals ! (29 ∷ 26 ∷ []) (refl, (refl, tt)))) (λ g10 e10.
           land-in ! 25 refl (typedEv e g10) $
           lends-again ! 33 22 21 refl refl refl refl (tt, tt) refl refl (tt, (tt, (record { fits = room₀ .0 }, tt))) refl $
           lends-again ! 32 20 19 refl refl refl refl (tt, tt) refl refl (tt, (tt, (record { fits = room₁ .0 }, tt))) refl $
@@ -251,14 +251,14 @@ module _ {M : Type 1} (𝓤 : URA M) (H : Heap 𝓤) (A : Atoms 𝓤) (W : Given
           ∷ lent Le.the-row κ₂ q₂ γ₂ b₂ o₂ n₂ (r .learners) (done′ .learners) (long .1 .1 .0) room₂
           ∷ lent Ms.the-row κ₃ q₃ γ₃ b₃ o₃ n₃ (r .slots) (done′ .slots) (long .1 .1 .1 .0) room₃
           ∷ passed Ev.the-row valsEv makesEv e g10 ∷ [])
-          An.the-row (step.clauses 𝓤 H A mem run) known-step valAn (EL.tells An.the-type An′.the-laws) (done′ .answer) (λ w. tt) (λ w. factI 𝓤 _ (emp 𝓤) (still on)) (λ w v ws. id⊢ 𝓤 _) (λ w. (and-local ! 28 refl (and-local ! 15 refl (and-local ! 13 refl (and-local ! 11 refl (and-local ! 9 refl (and-local ! 19 refl (no-more !)))))))) (λ g11 e11.
+          An.the-row (step.clauses 𝓤 H A mem run) known-step valAn (EL.tells An.the-type An′.the-laws) (done′ .answer) (λ w. tt) (λ w. factI 𝓤 _ (emp 𝓤) (still on)) (λ w v ws. id⊢ 𝓤 _) (λ w. (locals ! (28 ∷ 15 ∷ 13 ∷ 11 ∷ 9 ∷ 19 ∷ []) (refl, (refl, (refl, (refl, (refl, (refl, tt)))))))) (λ g11 e11.
           land-in ! 24 refl (typedAn (done′ .answer) g11) $
           lends-again ! 28 13 12 refl refl refl refl (tt, tt) refl refl (tt, (tt, (record { fits = room₅ .0 }, tt))) refl $
           move ! (10 ∷ 11 ∷ []) $
           calls ! fm (lent u64 κ₅ q₅ γ₅ b₅ o₅ n₅ (r .log) log′ (long .1 .1 .1 .1) room₅
           ∷ passed usize (uint-vals w64) (uint-makes 𝓤 H A W w64) k (refl, gk on)
           ∷ passed An.the-row valsAn makesAn (done′ .answer) g11 ∷ [])
-          Nothing (note.clauses 𝓤 H A mem run) known-note (λ _. vunit) nothing-tells tt (λ w. tt) (λ w. factI 𝓤 _ (emp 𝓤) (answer-there k n n₅ (length (r .log)) (low on) (fitting on .1 .1) (long .1 .1 .1 .1))) (λ w v ws. fact-mono 𝓤 ((ws .0 ≡ log′)) ((v ≡ tt) × ((ws .0 ≡ log′))) (λ e′. (refl, e′))) (λ w. (and-local ! 12 refl (and-local ! 26 refl (and-local ! 24 refl (no-more !))))) (λ _ e21.
+          Nothing (note.clauses 𝓤 H A mem run) known-note (λ _. vunit) nothing-tells tt (λ w. tt) (λ w. factI 𝓤 _ (emp 𝓤) (answer-there k n n₅ (length (r .log)) (low on) (fitting on .1 .1) (long .1 .1 .1 .1))) (λ w v ws. fact-mono 𝓤 ((ws .0 ≡ log′)) ((v ≡ tt) × ((ws .0 ≡ log′))) (λ e′. (refl, e′))) (λ w. (locals ! (12 ∷ 26 ∷ 24 ∷ []) (refl, (refl, (refl, tt))))) (λ _ e21.
           land-in ! 14 refl (tt, tt) $
           assigns-last ! (bin ! (reads ! (from ! (stop !)) (look ! 26 refl)) (lit ! tt) (record { fits = fits-next k n (low on) (gn .1) })) (from ! (stop !)) (store ! 26 refl (tt, record { fits = fits-next k n (low on) (gn .1) })) $
           forget ! 12 refl $ forget ! 13 refl $ forget ! 14 refl $ forget ! 15 refl $ forget ! 16 refl $ forget ! 17 refl $ forget ! 18 refl $ forget ! 19 refl $ forget ! 20 refl $ forget ! 21 refl $ forget ! 22 refl $ forget ! 23 refl $ forget ! 24 refl $ forget ! 25 refl $

@@ -42,7 +42,7 @@ use Rattle.model.specs.declared.Answer.the-variants.{Refused}
 use Rattle.machine.specs.Stepping.{Left, stepOf, Fits}
 use Rattle.machine.specs.Running.{untouched, timesFrom, timesOf, Repeats}
 use Rattle.machine.proofs.Frees.{full, bare, allocates, frees-all}
-use Rattle.machine.proofs.Moves.{and-local, lends-again}
+use Rattle.machine.proofs.Moves.{locals, lends-again}
 use Rattle.machine.proofs.Relending.{Slice, listAt}
 use Rattle.machine.proofs.CallsWithSlices.{passed, lent, calls}
 use Rattle.machine.proofs.LoopsOverSteps.{at-end, fits-byte, still-fit, times-none, times-next}
@@ -223,7 +223,7 @@ module _ {M : Type 1} (𝓤 : URA M) (H : Heap 𝓤) (A : Atoms 𝓤) (W : Given
           ∷ lent Le.the-row κ₂ q₂ γ₂ b₂ o₂ n₂ (r .learners) (done′ .learners) (long .1 .1 .0) room₂
           ∷ lent Ms.the-row κ₃ q₃ γ₃ b₃ o₃ n₃ (r .slots) (done′ .slots) (long .1 .1 .1) room₃
           ∷ passed Ev.the-row valsEv makesEv e ge ∷ [])
-          An.the-row (step.clauses 𝓤 H A mem run) known-step valAn (EL.tells An.the-type An′.the-laws) (done′ .answer) (λ w. tt) (λ w. factI 𝓤 _ (emp 𝓤) (still on)) (λ w v ws. id⊢ 𝓤 _) (λ w. (and-local ! 19 refl (and-local ! 8 refl (and-local ! 6 refl (and-local ! 4 refl (and-local ! 2 refl (and-local ! 14 refl (no-more !)))))))) (λ g8 e8.
+          An.the-row (step.clauses 𝓤 H A mem run) known-step valAn (EL.tells An.the-type An′.the-laws) (done′ .answer) (λ w. tt) (λ w. factI 𝓤 _ (emp 𝓤) (still on)) (λ w v ws. id⊢ 𝓤 _) (λ w. (locals ! (19 ∷ 8 ∷ 6 ∷ 4 ∷ 2 ∷ 14 ∷ []) (refl, (refl, (refl, (refl, (refl, (refl, tt)))))))) (λ g8 e8.
           land ! (from ! (stop !)) (store ! 18 refl (typedAn (done′ .answer) g8)) $
           assigns-last ! (bin ! (reads ! (from ! (stop !)) (look ! 17 refl)) (lit ! tt) (record { fits = fits-byte k n (low on) (gn .1) })) (from ! (stop !)) (store ! 17 refl (tt, record { fits = fits-byte k n (low on) (gn .1) })) $
           forget ! 8 refl $ forget ! 9 refl $ forget ! 10 refl $ forget ! 11 refl $ forget ! 12 refl $ forget ! 13 refl $ forget ! 14 refl $ forget ! 15 refl $ forget ! 16 refl $

@@ -19,7 +19,7 @@ use ghost.Atoms.{Atoms}
 use contract.Monad.{Fun, fact, factI}
 use contract.Running.{givenOf, tables, tablesOf}
 use types.Kit.{Given, Item, ‵, _⊛_, ⋆, runs, atRet, Sq, _$_, _∵_, !, qed, by, move, keep, split, join, fsplit, fjoin, suffices, frame, done}
-use types.Run.{branches, skips, returns-within, look, init, forget, stop, from, load as reads, lit, bin, no-more, assigns, first, returns, enter, params1, pass1, pass0, exec}
+use types.Run.{branches, skips, returns-within, look, init, forget, stop, from, load as reads, lit, bin, assigns, first, returns, enter, params1, pass1, pass0, exec}
 use sound.WpLaws.{FmC, fmOf, WpFn-mono}
 use denote.RattleType.{owns}
 use denote.Laws.{Is, Makes}
@@ -41,7 +41,7 @@ use Rattle.machine.specs.Stepping.{indexIn, theMessage, Left, stepOf, Fi
 use Rattle.machine.specs.Roles.{stepAt}
 use Rattle.decisions.specs.Arms.{armOf}
 use Rattle.machine.proofs.Frees.{full, bare, allocates, frees-all}
-use Rattle.machine.proofs.Moves.{and-local, land-in, lends-again}
+use Rattle.machine.proofs.Moves.{locals, land-in, lends-again}
 use Rattle.machine.proofs.Relending.{Slice, listAt}
 use Rattle.machine.proofs.CallsByValue.{calls-value}
 use Rattle.machine.proofs.CallsWithSlices.{passed, lent, calls}
@@ -277,7 +277,7 @@ module _ {M : Type 1} (𝓤 : URA M) (H : Heap 𝓤) (A : Atoms 𝓤) (W : Given
           ∷ passed Ev.the-row valsEv makesEv e ge
           ∷ passed usize (uint-vals w64) (uint-makes 𝓤 H A W w64) k g7
           ∷ passed Ms.the-row valsMs makesMs m g8 ∷ [])
-          An.the-row (step-table.clauses 𝓤 H A mem run) known-step-table valAn (EL.tells An.the-type An′.the-laws) (byTable .answer) (λ w. tt) (λ w. factI 𝓤 _ (emp 𝓤) (table-left e m not-3 not-4 not-2 not-1, (fit .0, (in-k, refl)))) (λ w v ws. id⊢ 𝓤 _) (λ w. (and-local ! 37 refl (and-local ! 8 refl (and-local ! 32 refl (and-local ! 31 refl (and-local ! 30 refl (no-more !))))))) (λ g0 e0.
+          An.the-row (step-table.clauses 𝓤 H A mem run) known-step-table valAn (EL.tells An.the-type An′.the-laws) (byTable .answer) (λ w. tt) (λ w. factI 𝓤 _ (emp 𝓤) (table-left e m not-3 not-4 not-2 not-1, (fit .0, (in-k, refl)))) (λ w v ws. id⊢ 𝓤 _) (λ w. (locals ! (37 ∷ 8 ∷ 32 ∷ 31 ∷ 30 ∷ []) (refl, (refl, (refl, (refl, (refl, tt))))))) (λ g0 e0.
           land-in ! 38 refl (typedAn (byTable .answer) g0) $
           returns ! (look ! 38 refl) $ frees-all ! 8 (full _ _ _ ∷ full _ _ _ ∷ bare _ _ ∷ bare _ _ ∷ bare _ _ ∷ bare _ _ ∷ bare _ _ ∷ bare _ _ ∷ bare _ _ ∷ bare _ _ ∷ bare _ _ ∷ bare _ _ ∷ bare _ _ ∷ bare _ _ ∷ bare _ _ ∷ bare _ _ ∷ bare _ _ ∷ bare _ _ ∷ bare _ _ ∷ bare _ _ ∷ bare _ _ ∷ full _ _ _ ∷ full _ _ _ ∷ full _ _ _ ∷ full _ _ _ ∷ full _ _ _ ∷ full _ _ _ ∷ full _ _ _ ∷ full _ _ _ ∷ full _ _ _ ∷ full _ _ _ ∷ []) refl refl $
           keep ! (2 ∷ 3 ∷ 4 ∷ 5 ∷ 6 ∷ 7 ∷ 0 ∷ 1 ∷ []) $ by ! (exits (leaves (byTable .answer) ps acs ls (byTable .slots)) (by-table z e k m ps acs ls t (table-left e m not-3 not-4 not-2 not-1)) g0 refl refl refl (e0 .0)))
@@ -297,7 +297,7 @@ module _ {M : Type 1} (𝓤 : URA M) (H : Heap 𝓤) (A : Atoms 𝓤) (W : Given
           ∷ passed Ev.the-row valsEv makesEv e ge
           ∷ passed usize (uint-vals w64) (uint-makes 𝓤 H A W w64) k g7
           ∷ passed Ms.the-row valsMs makesMs m g8 ∷ [])
-          An.the-row (step-proposer.clauses 𝓤 H A mem run) known-step-proposer valAn (EL.tells An.the-type An′.the-laws) (byProposer .answer) (λ w. tt) (λ w. factI 𝓤 _ (emp 𝓤) (holds, (fit .1 .0, (fit .0, (in-k, refl))))) (λ w v ws. id⊢ 𝓤 _) (λ w. (and-local ! 35 refl (and-local ! 10 refl (and-local ! 8 refl (and-local ! 30 refl (and-local ! 29 refl (and-local ! 28 refl (no-more !)))))))) (λ g0 e0.
+          An.the-row (step-proposer.clauses 𝓤 H A mem run) known-step-proposer valAn (EL.tells An.the-type An′.the-laws) (byProposer .answer) (λ w. tt) (λ w. factI 𝓤 _ (emp 𝓤) (holds, (fit .1 .0, (fit .0, (in-k, refl))))) (λ w v ws. id⊢ 𝓤 _) (λ w. (locals ! (35 ∷ 10 ∷ 8 ∷ 30 ∷ 29 ∷ 28 ∷ []) (refl, (refl, (refl, (refl, (refl, (refl, tt)))))))) (λ g0 e0.
           land-in ! 38 refl (typedAn (byProposer .answer) g0) $
           returns-within ! Post refl (look ! 38 refl) $ frees-all ! 8 (bare _ _ ∷ bare _ _ ∷ full _ _ _ ∷ full _ _ _ ∷ full _ _ _ ∷ full _ _ _ ∷ bare _ _ ∷ bare _ _ ∷ bare _ _ ∷ bare _ _ ∷ bare _ _ ∷ bare _ _ ∷ bare _ _ ∷ bare _ _ ∷ bare _ _ ∷ bare _ _ ∷ bare _ _ ∷ bare _ _ ∷ full _ _ _ ∷ bare _ _ ∷ bare _ _ ∷ full _ _ _ ∷ full _ _ _ ∷ full _ _ _ ∷ full _ _ _ ∷ full _ _ _ ∷ full _ _ _ ∷ full _ _ _ ∷ full _ _ _ ∷ full _ _ _ ∷ full _ _ _ ∷ []) refl refl $
           keep ! (0 ∷ 1 ∷ 4 ∷ 5 ∷ 6 ∷ 7 ∷ 2 ∷ 3 ∷ []) $ by ! (exits (leaves (byProposer .answer) (byProposer .proposers) acs ls (byProposer .slots)) (by-proposer z e k m ps acs ls t holds) g0 (e0 .0) refl refl (e0 .1 .0))))
@@ -318,7 +318,7 @@ module _ {M : Type 1} (𝓤 : URA M) (H : Heap 𝓤) (A : Atoms 𝓤) (W : Given
           ∷ passed Ev.the-row valsEv makesEv e ge
           ∷ passed usize (uint-vals w64) (uint-makes 𝓤 H A W w64) k g7
           ∷ passed Ms.the-row valsMs makesMs m g8 ∷ [])
-          An.the-row (step-acceptor.clauses 𝓤 H A mem run) known-step-acceptor valAn (EL.tells An.the-type An′.the-laws) (byAcceptor .answer) (λ w. tt) (λ w. factI 𝓤 _ (emp 𝓤) (holds, (fit .1 .1 .0, (fit .0, (in-k, refl))))) (λ w v ws. id⊢ 𝓤 _) (λ w. (and-local ! 35 refl (and-local ! 14 refl (and-local ! 12 refl (and-local ! 30 refl (and-local ! 29 refl (and-local ! 28 refl (no-more !)))))))) (λ g0 e0.
+          An.the-row (step-acceptor.clauses 𝓤 H A mem run) known-step-acceptor valAn (EL.tells An.the-type An′.the-laws) (byAcceptor .answer) (λ w. tt) (λ w. factI 𝓤 _ (emp 𝓤) (holds, (fit .1 .1 .0, (fit .0, (in-k, refl))))) (λ w v ws. id⊢ 𝓤 _) (λ w. (locals ! (35 ∷ 14 ∷ 12 ∷ 30 ∷ 29 ∷ 28 ∷ []) (refl, (refl, (refl, (refl, (refl, (refl, tt)))))))) (λ g0 e0.
           land-in ! 38 refl (typedAn (byAcceptor .answer) g0) $
           returns-within ! Post refl (look ! 38 refl) $ frees-all ! 8 (bare _ _ ∷ bare _ _ ∷ bare _ _ ∷ bare _ _ ∷ bare _ _ ∷ bare _ _ ∷ full _ _ _ ∷ full _ _ _ ∷ full _ _ _ ∷ full _ _ _ ∷ bare _ _ ∷ bare _ _ ∷ bare _ _ ∷ bare _ _ ∷ bare _ _ ∷ bare _ _ ∷ bare _ _ ∷ bare _ _ ∷ full _ _ _ ∷ bare _ _ ∷ bare _ _ ∷ full _ _ _ ∷ full _ _ _ ∷ full _ _ _ ∷ full _ _ _ ∷ full _ _ _ ∷ full _ _ _ ∷ full _ _ _ ∷ full _ _ _ ∷ full _ _ _ ∷ full _ _ _ ∷ []) refl refl $
           keep ! (4 ∷ 5 ∷ 0 ∷ 1 ∷ 6 ∷ 7 ∷ 2 ∷ 3 ∷ []) $ by ! (exits (leaves (byAcceptor .answer) ps (byAcceptor .acceptors) ls (byAcceptor .slots)) (by-acceptor z e k m ps acs ls t holds) g0 refl (e0 .0) refl (e0 .1 .0))))
@@ -339,7 +339,7 @@ module _ {M : Type 1} (𝓤 : URA M) (H : Heap 𝓤) (A : Atoms 𝓤) (W : Given
           ∷ passed Ev.the-row valsEv makesEv e ge
           ∷ passed usize (uint-vals w64) (uint-makes 𝓤 H A W w64) k g7
           ∷ passed Ms.the-row valsMs makesMs m g8 ∷ [])
-          An.the-row (step-told.clauses 𝓤 H A mem run) known-step-told valAn (EL.tells An.the-type An′.the-laws) (byProposer .answer) (λ w. tt) (λ w. factI 𝓤 _ (emp 𝓤) (holds, (fit .1 .0, (fit .0, (in-k, refl))))) (λ w v ws. id⊢ 𝓤 _) (λ w. (and-local ! 35 refl (and-local ! 18 refl (and-local ! 16 refl (and-local ! 30 refl (and-local ! 29 refl (and-local ! 28 refl (no-more !)))))))) (λ g0 e0.
+          An.the-row (step-told.clauses 𝓤 H A mem run) known-step-told valAn (EL.tells An.the-type An′.the-laws) (byProposer .answer) (λ w. tt) (λ w. factI 𝓤 _ (emp 𝓤) (holds, (fit .1 .0, (fit .0, (in-k, refl))))) (λ w v ws. id⊢ 𝓤 _) (λ w. (locals ! (35 ∷ 18 ∷ 16 ∷ 30 ∷ 29 ∷ 28 ∷ []) (refl, (refl, (refl, (refl, (refl, (refl, tt)))))))) (λ g0 e0.
           land-in ! 38 refl (typedAn (byProposer .answer) g0) $
           returns-within ! Post refl (look ! 38 refl) $ frees-all ! 8 (bare _ _ ∷ bare _ _ ∷ bare _ _ ∷ bare _ _ ∷ bare _ _ ∷ bare _ _ ∷ bare _ _ ∷ bare _ _ ∷ bare _ _ ∷ bare _ _ ∷ full _ _ _ ∷ full _ _ _ ∷ full _ _ _ ∷ full _ _ _ ∷ bare _ _ ∷ bare _ _ ∷ bare _ _ ∷ bare _ _ ∷ full _ _ _ ∷ bare _ _ ∷ bare _ _ ∷ full _ _ _ ∷ full _ _ _ ∷ full _ _ _ ∷ full _ _ _ ∷ full _ _ _ ∷ full _ _ _ ∷ full _ _ _ ∷ full _ _ _ ∷ full _ _ _ ∷ full _ _ _ ∷ []) refl refl $
           keep ! (0 ∷ 1 ∷ 4 ∷ 5 ∷ 6 ∷ 7 ∷ 2 ∷ 3 ∷ []) $ by ! (exits (leaves (byProposer .answer) (byProposer .proposers) acs ls (byProposer .slots)) (by-told z e k m ps acs ls t holds) g0 (e0 .0) refl refl (e0 .1 .0))))
@@ -360,7 +360,7 @@ module _ {M : Type 1} (𝓤 : URA M) (H : Heap 𝓤) (A : Atoms 𝓤) (W : Given
           ∷ passed Ev.the-row valsEv makesEv e ge
           ∷ passed usize (uint-vals w64) (uint-makes 𝓤 H A W w64) k g7
           ∷ passed Ms.the-row valsMs makesMs m g8 ∷ [])
-          An.the-row (step-learner.clauses 𝓤 H A mem run) known-step-learner valAn (EL.tells An.the-type An′.the-laws) (byLearner .answer) (λ w. tt) (λ w. factI 𝓤 _ (emp 𝓤) (holds, (fit .1 .1 .1 .0, (fit .0, (in-k, refl))))) (λ w v ws. id⊢ 𝓤 _) (λ w. (and-local ! 35 refl (and-local ! 22 refl (and-local ! 20 refl (and-local ! 30 refl (and-local ! 29 refl (and-local ! 28 refl (no-more !)))))))) (λ g0 e0.
+          An.the-row (step-learner.clauses 𝓤 H A mem run) known-step-learner valAn (EL.tells An.the-type An′.the-laws) (byLearner .answer) (λ w. tt) (λ w. factI 𝓤 _ (emp 𝓤) (holds, (fit .1 .1 .1 .0, (fit .0, (in-k, refl))))) (λ w v ws. id⊢ 𝓤 _) (λ w. (locals ! (35 ∷ 22 ∷ 20 ∷ 30 ∷ 29 ∷ 28 ∷ []) (refl, (refl, (refl, (refl, (refl, (refl, tt)))))))) (λ g0 e0.
           land-in ! 38 refl (typedAn (byLearner .answer) g0) $
           returns-within ! Post refl (look ! 38 refl) $ frees-all ! 8 (bare _ _ ∷ bare _ _ ∷ bare _ _ ∷ bare _ _ ∷ bare _ _ ∷ bare _ _ ∷ bare _ _ ∷ bare _ _ ∷ bare _ _ ∷ bare _ _ ∷ bare _ _ ∷ bare _ _ ∷ bare _ _ ∷ bare _ _ ∷ full _ _ _ ∷ full _ _ _ ∷ full _ _ _ ∷ full _ _ _ ∷ full _ _ _ ∷ bare _ _ ∷ bare _ _ ∷ full _ _ _ ∷ full _ _ _ ∷ full _ _ _ ∷ full _ _ _ ∷ full _ _ _ ∷ full _ _ _ ∷ full _ _ _ ∷ full _ _ _ ∷ full _ _ _ ∷ full _ _ _ ∷ []) refl refl $
           keep ! (4 ∷ 5 ∷ 6 ∷ 7 ∷ 0 ∷ 1 ∷ 2 ∷ 3 ∷ []) $ by ! (exits (leaves (byLearner .answer) ps acs (byLearner .learners) (byLearner .slots)) (by-learner z e k m ps acs ls t holds) g0 refl refl (e0 .0) (e0 .1 .0))))
@@ -370,15 +370,15 @@ module _ {M : Type 1} (𝓤 : URA M) (H : Heap 𝓤) (A : Atoms 𝓤) (W : Given
           ∷ ‵ (froom (sliceTy (tyRef erased mut (pointee (Ms.the-row .written)))) l₃₀ 0) ∷ ‵ (froom (tyRef erased mut (pointee (Ms.the-row .written))) l₂₉ 0) ∷ ‵ (froom (sliceTy (tyRef erased mut (pointee (Ms.the-row .written)))) l₂₈ 0) ∷ ‵ (froom (tyRef erased mut (pointee (Ms.the-row .written))) l₂₇ 0) ∷ ‵ (froom (sliceTy (tyRef erased mut (pointee (Pr.the-row .written)))) l₂₆ 0) ∷ ‵ (froom (tyRef erased mut (pointee (Pr.the-row .written))) l₂₅ 0) ∷ ‵ (froom (sliceTy (tyRef erased mut (pointee (Ms.the-row .written)))) l₂₄ 0) ∷ ‵ (froom (tyRef erased mut (pointee (Ms.the-row .written))) l₂₃ 0) ∷ ‵ (froom (sliceTy (tyRef erased mut (pointee (Ac.the-row .written)))) l₂₂ 0) ∷ ‵ (froom (tyRef erased mut (pointee (Ac.the-row .written))) l₂₁ 0) ∷ ‵ (froom (sliceTy (tyRef erased mut (pointee (Ms.the-row .written)))) l₂₀ 0) ∷ ‵ (froom (tyRef erased mut (pointee (Ms.the-row .written))) l₁₉ 0) ∷ ‵ (froom (sliceTy (tyRef erased mut (pointee (Pr.the-row .written)))) l₁₈ 0) ∷ ‵ (froom (tyRef erased mut (pointee (Pr.the-row .written))) l₁₇ 0) ∷ ‵ (froom (sliceTy (tyRef erased mut (pointee (Ms.the-row .written)))) l₁₆ 0) ∷ ‵ (froom (tyRef erased mut (pointee (Ms.the-row .written))) l₁₅ 0) ∷ ‵ (froom (sliceTy (tyRef erased mut (pointee (Le.the-row .written)))) l₁₄ 0) ∷ ‵ (froom (tyRef erased mut (pointee (Le.the-row .written))) l₁₃ 0) ∷ ‵ (froom tyBool l₁₂ 0) ∷ ‵ (froom (sliceTy (tyRef erased imm (pointee (Ms.the-row .written)))) l₁₁ 0) ∷ ‵ (froom (tyRef erased imm (pointee (Ms.the-row .written))) l₁₀ 0) ∷ ‵ (froom byte l₉ 0) ∷ ‵ (froom Ms′.mir l₈ 0) ∷ ‵ (froom word l₇ 0) ∷ ‵ (fat fullShare Ev′.mir l₆ 0 (valEv e)) ∷ ‵ (fat fullShare (sliceTy (tyRef (named 3) mut (pointee (Ms.the-row .written)))) l₅ 0 s₃) ∷ ‵ (fat fullShare (sliceTy (tyRef (named 2) mut (pointee (Le.the-row .written)))) l₄ 0 s₂) ∷ ‵ (fat fullShare (sliceTy (tyRef (named 1) mut (pointee (Ac.the-row .written)))) l₃ 0 s₁) ∷ ‵ (fat fullShare (sliceTy (tyRef (named 0) mut (pointee (Pr.the-row .written)))) l₂ 0 s₀) ∷ ‵ (fat fullShare Sz′.mir l₁ 0 (valSz z)) ∷ ‵ (froom An′.mir l₀ 0) ∷ Dies ∷ []) (runs C Λ En pieces.t-1 (atRet En Post))
       part-1 =
           calls-value ! fm (slot-at.signature .params) usize (slot-at.ended .kept) (slot-at.clauses 𝓤 H A mem run) known-slot-at (valsSz, (valsEv, tt)) (makesSz, (makesEv, tt)) (vint w64) (uint-tells w64)
-          (z, (e, tt)) (gz, (ge, tt)) tt (id⊢ 𝓤 (emp 𝓤)) k (λ r e′. id⊢ 𝓤 (fact 𝓤 (r ≡ k))) (and-local ! 38 refl (and-local ! 33 refl (no-more !))) (λ g7.
+          (z, (e, tt)) (gz, (ge, tt)) tt (id⊢ 𝓤 (emp 𝓤)) k (λ r e′. id⊢ 𝓤 (fact 𝓤 (r ≡ k))) (locals ! (38 ∷ 33 ∷ []) (refl, (refl, tt))) (λ g7.
           land-in ! 31 refl (tt, record { fits = g7 .1 }) $
           lends-again ! 33 28 27 refl refl refl refl (tt, tt) refl refl (tt, (tt, (record { fits = room₃ .0 }, tt))) refl $
           move ! (6 ∷ 7 ∷ []) $
           calls-shared ! fm Ms.the-row (plain (λ _. usize) ∷ []) Ms.the-row (yes, tt) valMs (LL.tells Ms.the-type Ms′.the-laws) b₃ o₃ n₃ t refl (λ ν. (uint-vals w64, tt)) (λ ν. (uint-makes 𝓤 H A W w64, tt)) (λ ν. (k, tt)) (λ ν. (g7, tt))
-          (load-message.clauses 𝓤 H A mem run) known-load-message m (λ ν δ. tt) (λ ν δ. factI 𝓤 _ (emp 𝓤) in-k) (λ ν δ r e′. id⊢ 𝓤 (fact 𝓤 (r ≡ m))) (λ ν δ. (and-local ! 30 refl (and-local ! 34 refl (no-more !)))) (λ g8.
+          (load-message.clauses 𝓤 H A mem run) known-load-message m (λ ν δ. tt) (λ ν δ. factI 𝓤 _ (emp 𝓤) in-k) (λ ν δ r e′. id⊢ 𝓤 (fact 𝓤 (r ≡ m))) (λ ν δ. (locals ! (30 ∷ 34 ∷ []) (refl, (refl, tt)))) (λ g8.
           land-in ! 30 refl (typedMs m g8) $
           calls-value ! fm (arms-arm-of.signature .params) u8 (arms-arm-of.ended .kept) (arms-arm-of.clauses 𝓤 H A mem run) known-arms-arm-of (valsEv, (valsMs, tt)) (makesEv, (makesMs, tt)) (vint w8) (uint-tells w8)
-          (e, (m, tt)) (ge, (g8, tt)) tt (id⊢ 𝓤 (emp 𝓤)) n (λ r e′. id⊢ 𝓤 (fact 𝓤 (r ≡ n))) (and-local ! 33 refl (and-local ! 31 refl (no-more !))) (λ g9.
+          (e, (m, tt)) (ge, (g8, tt)) tt (id⊢ 𝓤 (emp 𝓤)) n (λ r e′. id⊢ 𝓤 (fact 𝓤 (r ≡ n))) (locals ! (33 ∷ 31 ∷ []) (refl, (refl, tt))) (λ g9.
           land-in ! 29 refl (tt, record { fits = g9 .1 }) $
           forget ! 28 refl $
           forget ! 27 refl $

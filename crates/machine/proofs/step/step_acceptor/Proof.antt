@@ -18,7 +18,7 @@ use ghost.Atoms.{Atoms}
 use contract.Monad.{Fun, fact, factI, fact-mono}
 use contract.Running.{givenOf, tables, tablesOf}
 use types.Kit.{Given, Item, ‵, _⊛_, ⋆, runs, atRet, Sq, _$_, _∵_, !, qed, by, move, keep, split, join, fsplit, fjoin, suffices, frame, done}
-use types.Run.{look, init, forget, no-more, returns, enter, params1, pass1, pass0}
+use types.Run.{look, init, forget, returns, enter, params1, pass1, pass0}
 use sound.WpLaws.{FmC, fmOf, WpFn-mono}
 use denote.RattleType.{owns}
 use denote.Laws.{Is, Makes}
@@ -46,7 +46,7 @@ use Rattle.machine.specs.Stepping.{indexIn, partyOf}
 use Rattle.machine.specs.Roles.{proposerAt, acceptorAt, decisionAt, finishedAt, stepAt, OfAcceptor}
 use Rattle.model.specs.Records.{freshProposer, freshAcceptor, freshLearner}
 use Rattle.machine.proofs.Frees.{full, bare, allocates, frees-all}
-use Rattle.machine.proofs.Moves.{and-local, land-in, lends-again}
+use Rattle.machine.proofs.Moves.{locals, land-in, lends-again}
 use Rattle.machine.proofs.Relending.{Slice, listAt}
 use Rattle.machine.proofs.CallsByValue.{calls-value}
 use Rattle.machine.proofs.CallsLending.{calls-shared, calls-lent}
@@ -381,7 +381,7 @@ module _ {M : Type 1} (𝓤 : URA M) (H : Heap 𝓤) (A : Atoms 𝓤) (W : Given
           ∷ ‵ (froom (sliceTy (tyRef erased mut (pointee (Ms.the-row .written)))) l₂₇ 0) ∷ ‵ (froom (tyRef erased mut (pointee (Ms.the-row .written))) l₂₆ 0) ∷ ‵ (froom (sliceTy (tyRef erased mut (pointee (Ms.the-row .written)))) l₂₅ 0) ∷ ‵ (froom (tyRef erased mut (pointee (Ms.the-row .written))) l₂₄ 0) ∷ ‵ (froom (sliceTy (tyRef erased mut (pointee (Ac.the-row .written)))) l₂₃ 0) ∷ ‵ (froom (tyRef erased mut (pointee (Ac.the-row .written))) l₂₂ 0) ∷ ‵ (froom tyUnit l₂₁ 0) ∷ ‵ (froom (sliceTy (tyRef erased imm (pointee (Ms.the-row .written)))) l₂₀ 0) ∷ ‵ (froom (tyRef erased imm (pointee (Ms.the-row .written))) l₁₉ 0) ∷ ‵ (froom (sliceTy (tyRef erased imm (pointee (Ac.the-row .written)))) l₁₈ 0) ∷ ‵ (froom (tyRef erased imm (pointee (Ac.the-row .written))) l₁₇ 0) ∷ ‵ (fat fullShare Sd′.mir l₁₆ 0 (valSd (f .change .send))) ∷ ‵ (fat fullShare Ms′.mir l₁₅ 0 (valMs m′)) ∷ ‵ (fat fullShare Ac′.mir l₁₄ 0 (valAc (f .change .acceptor))) ∷ ‵ (fat fullShare Dn′.mir l₁₃ 0 (valDn f)) ∷ ‵ (fat fullShare byte l₁₂ 0 (vint w8 (lacking (d .need) t))) ∷ ‵ (fat fullShare byte l₁₁ 0 (vint w8 (d .need))) ∷ ‵ (fat fullShare Dn′.mir l₁₀ 0 (valDn d)) ∷ ‵ (fat fullShare Ac′.mir l₉ 0 (valAc c)) ∷ ‵ (fat fullShare Ai′.mir l₈ 0 (valAi id)) ∷ ‵ (fat fullShare word l₇ 0 (vint w64 i)) ∷ ‵ (fat fullShare Ms′.mir l₆ 0 (valMs m)) ∷ ‵ (fat fullShare word l₅ 0 (vint w64 k)) ∷ ‵ (fat fullShare Ev′.mir l₄ 0 (valEv e)) ∷ ‵ (fat fullShare (sliceTy (tyRef (named 1) mut (pointee (Ms.the-row .written)))) l₃ 0 s₁) ∷ ‵ (fat fullShare (sliceTy (tyRef (named 0) mut (pointee (Ac.the-row .written)))) l₂ 0 s₀) ∷ ‵ (fat fullShare Sz′.mir l₁ 0 (valSz z)) ∷ ‵ (froom An′.mir l₀ 0) ∷ Dies ∷ []) (runs C Λ En pieces.t-24 (atRet En Post))
       part-7 g7 g8 g9 g10 g11 g12 g13 g14 g15 g16 e23 e27 =
           calls-value ! fm (arms-reply.signature .params) An.the-row (arms-reply.ended .kept) (arms-reply.clauses 𝓤 H A mem run) known-arms-reply (valsEv, (valsDn, tt)) (makesEv, (makesDn, tt)) valAn (EL.tells An.the-type An′.the-laws)
-          (e, (f, tt)) (ge, (g13, tt)) tt (id⊢ 𝓤 (emp 𝓤)) r₀ (λ r e′. id⊢ 𝓤 (fact 𝓤 (r ≡ r₀))) (and-local ! 28 refl (and-local ! 19 refl (no-more !))) (λ g0.
+          (e, (f, tt)) (ge, (g13, tt)) tt (id⊢ 𝓤 (emp 𝓤)) r₀ (λ r e′. id⊢ 𝓤 (fact 𝓤 (r ≡ r₀))) (locals ! (28 ∷ 19 ∷ []) (refl, (refl, tt))) (λ g0.
           land-in ! 31 refl (typedAn r₀ g0) $
           returns ! (look ! 31 refl) $ frees-all ! 4 (bare _ _ ∷ bare _ _ ∷ bare _ _ ∷ bare _ _ ∷ bare _ _ ∷ bare _ _ ∷ bare _ _ ∷ bare _ _ ∷ bare _ _ ∷ bare _ _ ∷ bare _ _ ∷ full _ _ _ ∷ full _ _ _ ∷ full _ _ _ ∷ full _ _ _ ∷ full _ _ _ ∷ full _ _ _ ∷ full _ _ _ ∷ full _ _ _ ∷ full _ _ _ ∷ full _ _ _ ∷ full _ _ _ ∷ full _ _ _ ∷ full _ _ _ ∷ full _ _ _ ∷ full _ _ _ ∷ full _ _ _ ∷ full _ _ _ ∷ []) refl refl $
           keep ! (2 ∷ 3 ∷ 0 ∷ 1 ∷ []) $ by ! (exits g0 e23 e27))
@@ -390,11 +390,11 @@ module _ {M : Type 1} (𝓤 : URA M) (H : Heap 𝓤) (A : Atoms 𝓤) (W : Given
           ∷ ‵ (froom (sliceTy (tyRef erased mut (pointee (Ms.the-row .written)))) l₂₇ 0) ∷ ‵ (froom (tyRef erased mut (pointee (Ms.the-row .written))) l₂₆ 0) ∷ ‵ (froom (sliceTy (tyRef erased mut (pointee (Ms.the-row .written)))) l₂₅ 0) ∷ ‵ (froom (tyRef erased mut (pointee (Ms.the-row .written))) l₂₄ 0) ∷ ‵ (froom (sliceTy (tyRef erased mut (pointee (Ac.the-row .written)))) l₂₃ 0) ∷ ‵ (froom (tyRef erased mut (pointee (Ac.the-row .written))) l₂₂ 0) ∷ ‵ (froom tyUnit l₂₁ 0) ∷ ‵ (froom (sliceTy (tyRef erased imm (pointee (Ms.the-row .written)))) l₂₀ 0) ∷ ‵ (froom (tyRef erased imm (pointee (Ms.the-row .written))) l₁₉ 0) ∷ ‵ (froom (sliceTy (tyRef erased imm (pointee (Ac.the-row .written)))) l₁₈ 0) ∷ ‵ (froom (tyRef erased imm (pointee (Ac.the-row .written))) l₁₇ 0) ∷ ‵ (froom Sd′.mir l₁₆ 0) ∷ ‵ (fat fullShare Ms′.mir l₁₅ 0 (valMs m′)) ∷ ‵ (fat fullShare Ac′.mir l₁₄ 0 (valAc (f .change .acceptor))) ∷ ‵ (fat fullShare Dn′.mir l₁₃ 0 (valDn f)) ∷ ‵ (fat fullShare byte l₁₂ 0 (vint w8 (lacking (d .need) t))) ∷ ‵ (fat fullShare byte l₁₁ 0 (vint w8 (d .need))) ∷ ‵ (fat fullShare Dn′.mir l₁₀ 0 (valDn d)) ∷ ‵ (fat fullShare Ac′.mir l₉ 0 (valAc c)) ∷ ‵ (fat fullShare Ai′.mir l₈ 0 (valAi id)) ∷ ‵ (fat fullShare word l₇ 0 (vint w64 i)) ∷ ‵ (fat fullShare Ms′.mir l₆ 0 (valMs m)) ∷ ‵ (fat fullShare word l₅ 0 (vint w64 k)) ∷ ‵ (fat fullShare Ev′.mir l₄ 0 (valEv e)) ∷ ‵ (fat fullShare (sliceTy (tyRef (named 1) mut (pointee (Ms.the-row .written)))) l₃ 0 s₁) ∷ ‵ (fat fullShare (sliceTy (tyRef (named 0) mut (pointee (Ac.the-row .written)))) l₂ 0 s₀) ∷ ‵ (fat fullShare Sz′.mir l₁ 0 (valSz z)) ∷ ‵ (froom An′.mir l₀ 0) ∷ Dies ∷ []) (runs C Λ En pieces.t-20 (atRet En Post))
       part-6 g7 g8 g9 g10 g11 g12 g13 g14 g15 e23 e25 =
           calls-value ! fm (send-in.signature .params) Sd.the-row (send-in.ended .kept) (send-in.clauses 𝓤 H A mem run) known-send-in (valsDn, tt) (makesDn, tt) valSd (LL.tells Sd.the-type Sd′.the-laws)
-          (f, tt) (g13, tt) tt (id⊢ 𝓤 (emp 𝓤)) (f .change .send) (λ r e′. id⊢ 𝓤 (fact 𝓤 (r ≡ (f .change .send)))) (and-local ! 19 refl (no-more !)) (λ g16.
+          (f, tt) (g13, tt) tt (id⊢ 𝓤 (emp 𝓤)) (f .change .send) (λ r e′. id⊢ 𝓤 (fact 𝓤 (r ≡ (f .change .send)))) (locals ! (19 ∷ []) (refl, tt)) (λ g16.
           land-in ! 15 refl (typedSd (f .change .send) g16) $
           lends-again ! 28 5 4 refl refl refl refl (tt, tt) refl refl (tt, (tt, (record { fits = room₁ .0 }, tt))) refl $
           calls-lent ! fm Ms.the-row (plain (λ _. Sd.the-row) ∷ []) Nothing (yes, tt) (λ _. vunit) nothing-tells b₁ o₁ n₁ t₁ e25 (λ ν. (valsSd, tt)) (λ ν. (makesSd, tt)) (λ ν. ((f .change .send), tt)) (λ ν. (g16, tt))
-          (send-all.clauses 𝓤 H A mem run) known-send-all room₁ tt t′ (λ ν δ. tt) (λ ν δ. factI 𝓤 _ (emp 𝓤) ready) (λ ν δ r ws. fact-mono 𝓤 (ws .0 ≡ t′) ((r ≡ tt) × (ws .0 ≡ t′)) (λ e′. (refl, e′))) (λ ν δ. (and-local ! 4 refl (and-local ! 15 refl (no-more !)))) (λ _ e27.
+          (send-all.clauses 𝓤 H A mem run) known-send-all room₁ tt t′ (λ ν δ. tt) (λ ν δ. factI 𝓤 _ (emp 𝓤) ready) (λ ν δ r ws. fact-mono 𝓤 (ws .0 ≡ t′) ((r ≡ tt) × (ws .0 ≡ t′)) (λ e′. (refl, e′))) (λ ν δ. (locals ! (4 ∷ 15 ∷ []) (refl, (refl, tt)))) (λ _ e27.
           land-in ! 10 refl (tt, tt) $
           forget ! 10 refl $
           forget ! 5 refl $
@@ -405,12 +405,12 @@ module _ {M : Type 1} (𝓤 : URA M) (H : Heap 𝓤) (A : Atoms 𝓤) (W : Given
           ∷ ‵ (froom (sliceTy (tyRef erased mut (pointee (Ms.the-row .written)))) l₂₇ 0) ∷ ‵ (froom (tyRef erased mut (pointee (Ms.the-row .written))) l₂₆ 0) ∷ ‵ (froom (sliceTy (tyRef erased mut (pointee (Ms.the-row .written)))) l₂₅ 0) ∷ ‵ (froom (tyRef erased mut (pointee (Ms.the-row .written))) l₂₄ 0) ∷ ‵ (froom (sliceTy (tyRef erased mut (pointee (Ac.the-row .written)))) l₂₃ 0) ∷ ‵ (froom (tyRef erased mut (pointee (Ac.the-row .written))) l₂₂ 0) ∷ ‵ (froom tyUnit l₂₁ 0) ∷ ‵ (froom (sliceTy (tyRef erased imm (pointee (Ms.the-row .written)))) l₂₀ 0) ∷ ‵ (froom (tyRef erased imm (pointee (Ms.the-row .written))) l₁₉ 0) ∷ ‵ (froom (sliceTy (tyRef erased imm (pointee (Ac.the-row .written)))) l₁₈ 0) ∷ ‵ (froom (tyRef erased imm (pointee (Ac.the-row .written))) l₁₇ 0) ∷ ‵ (froom Sd′.mir l₁₆ 0) ∷ ‵ (froom Ms′.mir l₁₅ 0) ∷ ‵ (fat fullShare Ac′.mir l₁₄ 0 (valAc (f .change .acceptor))) ∷ ‵ (fat fullShare Dn′.mir l₁₃ 0 (valDn f)) ∷ ‵ (fat fullShare byte l₁₂ 0 (vint w8 (lacking (d .need) t))) ∷ ‵ (fat fullShare byte l₁₁ 0 (vint w8 (d .need))) ∷ ‵ (fat fullShare Dn′.mir l₁₀ 0 (valDn d)) ∷ ‵ (fat fullShare Ac′.mir l₉ 0 (valAc c)) ∷ ‵ (fat fullShare Ai′.mir l₈ 0 (valAi id)) ∷ ‵ (fat fullShare word l₇ 0 (vint w64 i)) ∷ ‵ (fat fullShare Ms′.mir l₆ 0 (valMs m)) ∷ ‵ (fat fullShare word l₅ 0 (vint w64 k)) ∷ ‵ (fat fullShare Ev′.mir l₄ 0 (valEv e)) ∷ ‵ (fat fullShare (sliceTy (tyRef (named 1) mut (pointee (Ms.the-row .written)))) l₃ 0 s₁) ∷ ‵ (fat fullShare (sliceTy (tyRef (named 0) mut (pointee (Ac.the-row .written)))) l₂ 0 s₀) ∷ ‵ (fat fullShare Sz′.mir l₁ 0 (valSz z)) ∷ ‵ (froom An′.mir l₀ 0) ∷ Dies ∷ []) (runs C Λ En pieces.t-16 (atRet En Post))
       part-5 g7 g8 g9 g10 g11 g12 g13 g14 e23 =
           calls-value ! fm (slot-in.signature .params) Ms.the-row (slot-in.ended .kept) (slot-in.clauses 𝓤 H A mem run) known-slot-in (valsDn, (valsMs, tt)) (makesDn, (makesMs, tt)) valMs (LL.tells Ms.the-type Ms′.the-laws)
-          (f, (m, tt)) (g13, (gm, tt)) tt (id⊢ 𝓤 (emp 𝓤)) m′ (λ r e′. id⊢ 𝓤 (fact 𝓤 (r ≡ m′))) (and-local ! 19 refl (and-local ! 26 refl (no-more !))) (λ g15.
+          (f, (m, tt)) (g13, (gm, tt)) tt (id⊢ 𝓤 (emp 𝓤)) m′ (λ r e′. id⊢ 𝓤 (fact 𝓤 (r ≡ m′))) (locals ! (19 ∷ 26 ∷ []) (refl, (refl, tt))) (λ g15.
           land-in ! 16 refl (typedMs m′ g15) $
           lends-again ! 28 7 6 refl refl refl refl (tt, tt) refl refl (tt, (tt, (record { fits = room₁ .0 }, tt))) refl $
           move ! (2 ∷ 3 ∷ []) $
           calls-lent ! fm Ms.the-row (plain (λ _. usize) ∷ plain (λ _. Ms.the-row) ∷ []) Nothing (yes, (yes, tt)) (λ _. vunit) nothing-tells b₁ o₁ n₁ t refl (λ ν. (uint-vals w64, (valsMs, tt))) (λ ν. (uint-makes 𝓤 H A W w64, (makesMs, tt))) (λ ν. (k, (m′, tt))) (λ ν. (gk, (g15, tt)))
-          (store-message.clauses 𝓤 H A mem run) known-store-message room₁ tt t₁ (λ ν δ. tt) (λ ν δ. factI 𝓤 _ (emp 𝓤) in-k) (λ ν δ r ws. fact-mono 𝓤 (ws .0 ≡ t₁) ((r ≡ tt) × (ws .0 ≡ t₁)) (λ e′. (refl, e′))) (λ ν δ. (and-local ! 6 refl (and-local ! 26 refl (and-local ! 16 refl (no-more !))))) (λ _ e25.
+          (store-message.clauses 𝓤 H A mem run) known-store-message room₁ tt t₁ (λ ν δ. tt) (λ ν δ. factI 𝓤 _ (emp 𝓤) in-k) (λ ν δ r ws. fact-mono 𝓤 (ws .0 ≡ t₁) ((r ≡ tt) × (ws .0 ≡ t₁)) (λ e′. (refl, e′))) (λ ν δ. (locals ! (6 ∷ 26 ∷ 16 ∷ []) (refl, (refl, (refl, tt))))) (λ _ e25.
           land-in ! 10 refl (tt, tt) $
           forget ! 10 refl $
           forget ! 7 refl $
@@ -421,15 +421,15 @@ module _ {M : Type 1} (𝓤 : URA M) (H : Heap 𝓤) (A : Atoms 𝓤) (W : Given
           ∷ ‵ (froom (sliceTy (tyRef erased mut (pointee (Ms.the-row .written)))) l₂₇ 0) ∷ ‵ (froom (tyRef erased mut (pointee (Ms.the-row .written))) l₂₆ 0) ∷ ‵ (froom (sliceTy (tyRef erased mut (pointee (Ms.the-row .written)))) l₂₅ 0) ∷ ‵ (froom (tyRef erased mut (pointee (Ms.the-row .written))) l₂₄ 0) ∷ ‵ (froom (sliceTy (tyRef erased mut (pointee (Ac.the-row .written)))) l₂₃ 0) ∷ ‵ (froom (tyRef erased mut (pointee (Ac.the-row .written))) l₂₂ 0) ∷ ‵ (froom tyUnit l₂₁ 0) ∷ ‵ (froom (sliceTy (tyRef erased imm (pointee (Ms.the-row .written)))) l₂₀ 0) ∷ ‵ (froom (tyRef erased imm (pointee (Ms.the-row .written))) l₁₉ 0) ∷ ‵ (froom (sliceTy (tyRef erased imm (pointee (Ac.the-row .written)))) l₁₈ 0) ∷ ‵ (froom (tyRef erased imm (pointee (Ac.the-row .written))) l₁₇ 0) ∷ ‵ (froom Sd′.mir l₁₆ 0) ∷ ‵ (froom Ms′.mir l₁₅ 0) ∷ ‵ (froom Ac′.mir l₁₄ 0) ∷ ‵ (froom Dn′.mir l₁₃ 0) ∷ ‵ (fat fullShare byte l₁₂ 0 (vint w8 (lacking (d .need) t))) ∷ ‵ (fat fullShare byte l₁₁ 0 (vint w8 (d .need))) ∷ ‵ (fat fullShare Dn′.mir l₁₀ 0 (valDn d)) ∷ ‵ (fat fullShare Ac′.mir l₉ 0 (valAc c)) ∷ ‵ (fat fullShare Ai′.mir l₈ 0 (valAi id)) ∷ ‵ (fat fullShare word l₇ 0 (vint w64 i)) ∷ ‵ (fat fullShare Ms′.mir l₆ 0 (valMs m)) ∷ ‵ (fat fullShare word l₅ 0 (vint w64 k)) ∷ ‵ (fat fullShare Ev′.mir l₄ 0 (valEv e)) ∷ ‵ (fat fullShare (sliceTy (tyRef (named 1) mut (pointee (Ms.the-row .written)))) l₃ 0 s₁) ∷ ‵ (fat fullShare (sliceTy (tyRef (named 0) mut (pointee (Ac.the-row .written)))) l₂ 0 s₀) ∷ ‵ (fat fullShare Sz′.mir l₁ 0 (valSz z)) ∷ ‵ (froom An′.mir l₀ 0) ∷ Dies ∷ []) (runs C Λ En pieces.t-11 (atRet En Post))
       part-4 g7 g8 g9 g10 g11 g12 =
           calls-value ! fm (finish-acceptor.signature .params) Dn.the-row (finish-acceptor.ended .kept) (finish-acceptor.clauses 𝓤 H A mem run) known-finish-acceptor (valsDn, (uint-vals w8, (valsAc, tt))) (makesDn, (uint-makes 𝓤 H A W w8, (makesAc, tt))) valDn (LL.tells Dn.the-type Dn′.the-laws)
-          (d, ((lacking (d .need) t), (c, tt))) (g10, (g12, (g9, tt))) tt (id⊢ 𝓤 (emp 𝓤)) f (λ r e′. id⊢ 𝓤 (fact 𝓤 (r ≡ f))) (and-local ! 22 refl (and-local ! 20 refl (and-local ! 23 refl (no-more !)))) (λ g13.
+          (d, ((lacking (d .need) t), (c, tt))) (g10, (g12, (g9, tt))) tt (id⊢ 𝓤 (emp 𝓤)) f (λ r e′. id⊢ 𝓤 (fact 𝓤 (r ≡ f))) (locals ! (22 ∷ 20 ∷ 23 ∷ []) (refl, (refl, (refl, tt)))) (λ g13.
           land-in ! 18 refl (typedDn f g13) $
           calls-value ! fm (acceptor-in.signature .params) Ac.the-row (acceptor-in.ended .kept) (acceptor-in.clauses 𝓤 H A mem run) known-acceptor-in (valsDn, tt) (makesDn, tt) valAc (LL.tells Ac.the-type Ac′.the-laws)
-          (f, tt) (g13, tt) tt (id⊢ 𝓤 (emp 𝓤)) (f .change .acceptor) (λ r e′. id⊢ 𝓤 (fact 𝓤 (r ≡ (f .change .acceptor)))) (and-local ! 19 refl (no-more !)) (λ g14.
+          (f, tt) (g13, tt) tt (id⊢ 𝓤 (emp 𝓤)) (f .change .acceptor) (λ r e′. id⊢ 𝓤 (fact 𝓤 (r ≡ (f .change .acceptor)))) (locals ! (19 ∷ []) (refl, tt)) (λ g14.
           land-in ! 17 refl (typedAc (f .change .acceptor) g14) $
           lends-again ! 29 9 8 refl refl refl refl (tt, tt) refl refl (tt, (tt, (record { fits = room₀ .0 }, tt))) refl $
           move ! (2 ∷ 3 ∷ []) $
           calls-lent ! fm Ac.the-row (plain (λ _. Ai.the-row) ∷ plain (λ _. Ac.the-row) ∷ []) Nothing (yes, (yes, tt)) (λ _. vunit) nothing-tells b₀ o₀ n₀ acs refl (λ ν. (valsAi, (valsAc, tt))) (λ ν. (makesAi, (makesAc, tt))) (λ ν. (id, ((f .change .acceptor), tt))) (λ ν. (g8, (g14, tt)))
-          (store-acceptor.clauses 𝓤 H A mem run) known-store-acceptor room₀ tt own′ (λ ν δ. tt) (λ ν δ. factI 𝓤 _ (emp 𝓤) in-p) (λ ν δ r ws. fact-mono 𝓤 (ws .0 ≡ own′) ((r ≡ tt) × (ws .0 ≡ own′)) (λ e′. (refl, e′))) (λ ν δ. (and-local ! 8 refl (and-local ! 23 refl (and-local ! 17 refl (no-more !))))) (λ _ e23.
+          (store-acceptor.clauses 𝓤 H A mem run) known-store-acceptor room₀ tt own′ (λ ν δ. tt) (λ ν δ. factI 𝓤 _ (emp 𝓤) in-p) (λ ν δ r ws. fact-mono 𝓤 (ws .0 ≡ own′) ((r ≡ tt) × (ws .0 ≡ own′)) (λ e′. (refl, e′))) (λ ν δ. (locals ! (8 ∷ 23 ∷ 17 ∷ []) (refl, (refl, (refl, tt))))) (λ _ e23.
           land-in ! 10 refl (tt, tt) $
           forget ! 10 refl $
           forget ! 9 refl $
@@ -440,12 +440,12 @@ module _ {M : Type 1} (𝓤 : URA M) (H : Heap 𝓤) (A : Atoms 𝓤) (W : Given
           ∷ ‵ (froom (sliceTy (tyRef erased mut (pointee (Ms.the-row .written)))) l₂₇ 0) ∷ ‵ (froom (tyRef erased mut (pointee (Ms.the-row .written))) l₂₆ 0) ∷ ‵ (froom (sliceTy (tyRef erased mut (pointee (Ms.the-row .written)))) l₂₅ 0) ∷ ‵ (froom (tyRef erased mut (pointee (Ms.the-row .written))) l₂₄ 0) ∷ ‵ (froom (sliceTy (tyRef erased mut (pointee (Ac.the-row .written)))) l₂₃ 0) ∷ ‵ (froom (tyRef erased mut (pointee (Ac.the-row .written))) l₂₂ 0) ∷ ‵ (froom tyUnit l₂₁ 0) ∷ ‵ (froom (sliceTy (tyRef erased imm (pointee (Ms.the-row .written)))) l₂₀ 0) ∷ ‵ (froom (tyRef erased imm (pointee (Ms.the-row .written))) l₁₉ 0) ∷ ‵ (froom (sliceTy (tyRef erased imm (pointee (Ac.the-row .written)))) l₁₈ 0) ∷ ‵ (froom (tyRef erased imm (pointee (Ac.the-row .written))) l₁₇ 0) ∷ ‵ (froom Sd′.mir l₁₆ 0) ∷ ‵ (froom Ms′.mir l₁₅ 0) ∷ ‵ (froom Ac′.mir l₁₄ 0) ∷ ‵ (froom Dn′.mir l₁₃ 0) ∷ ‵ (froom byte l₁₂ 0) ∷ ‵ (froom byte l₁₁ 0) ∷ ‵ (fat fullShare Dn′.mir l₁₀ 0 (valDn d)) ∷ ‵ (fat fullShare Ac′.mir l₉ 0 (valAc c)) ∷ ‵ (fat fullShare Ai′.mir l₈ 0 (valAi id)) ∷ ‵ (fat fullShare word l₇ 0 (vint w64 i)) ∷ ‵ (fat fullShare Ms′.mir l₆ 0 (valMs m)) ∷ ‵ (fat fullShare word l₅ 0 (vint w64 k)) ∷ ‵ (fat fullShare Ev′.mir l₄ 0 (valEv e)) ∷ ‵ (fat fullShare (sliceTy (tyRef (named 1) mut (pointee (Ms.the-row .written)))) l₃ 0 s₁) ∷ ‵ (fat fullShare (sliceTy (tyRef (named 0) mut (pointee (Ac.the-row .written)))) l₂ 0 s₀) ∷ ‵ (fat fullShare Sz′.mir l₁ 0 (valSz z)) ∷ ‵ (froom An′.mir l₀ 0) ∷ Dies ∷ []) (runs C Λ En pieces.t-7 (atRet En Post))
       part-3 g7 g8 g9 g10 =
           calls-value ! fm (need-in.signature .params) u8 (need-in.ended .kept) (need-in.clauses 𝓤 H A mem run) known-need-in (valsDn, tt) (makesDn, tt) (vint w8) (uint-tells w8)
-          (d, tt) (g10, tt) tt (id⊢ 𝓤 (emp 𝓤)) (d .need) (λ r e′. id⊢ 𝓤 (fact 𝓤 (r ≡ (d .need)))) (and-local ! 22 refl (no-more !)) (λ g11.
+          (d, tt) (g10, tt) tt (id⊢ 𝓤 (emp 𝓤)) (d .need) (λ r e′. id⊢ 𝓤 (fact 𝓤 (r ≡ (d .need)))) (locals ! (22 ∷ []) (refl, tt)) (λ g11.
           land-in ! 20 refl (tt, record { fits = g11 .1 }) $
           lends-again ! 28 12 11 refl refl refl refl (tt, tt) refl refl (tt, (tt, (record { fits = room₁ .0 }, tt))) refl $
           move ! (2 ∷ 3 ∷ []) $
           calls-shared ! fm Ms.the-row (plain (λ _. u8) ∷ []) u8 (yes, tt) (vint w8) (uint-tells w8) b₁ o₁ n₁ t refl (λ ν. (uint-vals w8, tt)) (λ ν. (uint-makes 𝓤 H A W w8, tt)) (λ ν. ((d .need), tt)) (λ ν. (g11, tt))
-          (room.clauses 𝓤 H A mem run) known-room (lacking (d .need) t) (λ ν δ. tt) (λ ν δ. id⊢ 𝓤 (emp 𝓤)) (λ ν δ r e′. id⊢ 𝓤 (fact 𝓤 (r ≡ (lacking (d .need) t)))) (λ ν δ. (and-local ! 14 refl (and-local ! 23 refl (no-more !)))) (λ g12.
+          (room.clauses 𝓤 H A mem run) known-room (lacking (d .need) t) (λ ν δ. tt) (λ ν δ. id⊢ 𝓤 (emp 𝓤)) (λ ν δ r e′. id⊢ 𝓤 (fact 𝓤 (r ≡ (lacking (d .need) t)))) (λ ν δ. (locals ! (14 ∷ 23 ∷ []) (refl, (refl, tt)))) (λ g12.
           land-in ! 19 refl (tt, record { fits = g12 .1 }) $
           forget ! 12 refl $
           forget ! 11 refl $
@@ -456,10 +456,10 @@ module _ {M : Type 1} (𝓤 : URA M) (H : Heap 𝓤) (A : Atoms 𝓤) (W : Given
       part-2 g7 g8 =
           lends-again ! 29 14 13 refl refl refl refl (tt, tt) refl refl (tt, (tt, (record { fits = room₀ .0 }, tt))) refl $
           calls-shared ! fm Ac.the-row (plain (λ _. Ai.the-row) ∷ []) Ac.the-row (yes, tt) valAc (LL.tells Ac.the-type Ac′.the-laws) b₀ o₀ n₀ acs refl (λ ν. (valsAi, tt)) (λ ν. (makesAi, tt)) (λ ν. (id, tt)) (λ ν. (g8, tt))
-          (load-acceptor.clauses 𝓤 H A mem run) known-load-acceptor c (λ ν δ. tt) (λ ν δ. factI 𝓤 _ (emp 𝓤) in-p) (λ ν δ r e′. id⊢ 𝓤 (fact 𝓤 (r ≡ c))) (λ ν δ. (and-local ! 16 refl (and-local ! 26 refl (no-more !)))) (λ g9.
+          (load-acceptor.clauses 𝓤 H A mem run) known-load-acceptor c (λ ν δ. tt) (λ ν δ. factI 𝓤 _ (emp 𝓤) in-p) (λ ν δ r e′. id⊢ 𝓤 (fact 𝓤 (r ≡ c))) (λ ν δ. (locals ! (16 ∷ 26 ∷ []) (refl, (refl, tt)))) (λ g9.
           land-in ! 22 refl (typedAc c g9) $
           calls-value ! fm (arms-decide-acceptor.signature .params) Dn.the-row (arms-decide-acceptor.ended .kept) (arms-decide-acceptor.clauses 𝓤 H A mem run) known-arms-decide-acceptor (valsSz, (valsEv, (valsMs, (valsAc, tt)))) (makesSz, (makesEv, (makesMs, (makesAc, tt)))) valDn (LL.tells Dn.the-type Dn′.the-laws)
-          (z, (e, (m, (c, tt)))) (gz, (ge, (gm, (g9, tt)))) tt (id⊢ 𝓤 (emp 𝓤)) d (λ r e′. fact-mono 𝓤 (r ≡ decidedIn 2 z e m freshProposer c) (r ≡ d) (λ p. p ∙ decided-in 2 z e m freshProposer c (fit .1 .1 .0) (fit .0))) (and-local ! 31 refl (and-local ! 28 refl (and-local ! 26 refl (and-local ! 23 refl (no-more !))))) (λ g10.
+          (z, (e, (m, (c, tt)))) (gz, (ge, (gm, (g9, tt)))) tt (id⊢ 𝓤 (emp 𝓤)) d (λ r e′. fact-mono 𝓤 (r ≡ decidedIn 2 z e m freshProposer c) (r ≡ d) (λ p. p ∙ decided-in 2 z e m freshProposer c (fit .1 .1 .0) (fit .0))) (locals ! (31 ∷ 28 ∷ 26 ∷ 23 ∷ []) (refl, (refl, (refl, (refl, tt))))) (λ g10.
           land-in ! 21 refl (typedDn d g10) $
           forget ! 14 refl $
           forget ! 13 refl $
@@ -469,10 +469,10 @@ module _ {M : Type 1} (𝓤 : URA M) (H : Heap 𝓤) (A : Atoms 𝓤) (W : Given
           ∷ ‵ (froom (sliceTy (tyRef erased mut (pointee (Ms.the-row .written)))) l₂₇ 0) ∷ ‵ (froom (tyRef erased mut (pointee (Ms.the-row .written))) l₂₆ 0) ∷ ‵ (froom (sliceTy (tyRef erased mut (pointee (Ms.the-row .written)))) l₂₅ 0) ∷ ‵ (froom (tyRef erased mut (pointee (Ms.the-row .written))) l₂₄ 0) ∷ ‵ (froom (sliceTy (tyRef erased mut (pointee (Ac.the-row .written)))) l₂₃ 0) ∷ ‵ (froom (tyRef erased mut (pointee (Ac.the-row .written))) l₂₂ 0) ∷ ‵ (froom tyUnit l₂₁ 0) ∷ ‵ (froom (sliceTy (tyRef erased imm (pointee (Ms.the-row .written)))) l₂₀ 0) ∷ ‵ (froom (tyRef erased imm (pointee (Ms.the-row .written))) l₁₉ 0) ∷ ‵ (froom (sliceTy (tyRef erased imm (pointee (Ac.the-row .written)))) l₁₈ 0) ∷ ‵ (froom (tyRef erased imm (pointee (Ac.the-row .written))) l₁₇ 0) ∷ ‵ (froom Sd′.mir l₁₆ 0) ∷ ‵ (froom Ms′.mir l₁₅ 0) ∷ ‵ (froom Ac′.mir l₁₄ 0) ∷ ‵ (froom Dn′.mir l₁₃ 0) ∷ ‵ (froom byte l₁₂ 0) ∷ ‵ (froom byte l₁₁ 0) ∷ ‵ (froom Dn′.mir l₁₀ 0) ∷ ‵ (froom Ac′.mir l₉ 0) ∷ ‵ (froom Ai′.mir l₈ 0) ∷ ‵ (froom word l₇ 0) ∷ ‵ (fat fullShare Ms′.mir l₆ 0 (valMs m)) ∷ ‵ (fat fullShare word l₅ 0 (vint w64 k)) ∷ ‵ (fat fullShare Ev′.mir l₄ 0 (valEv e)) ∷ ‵ (fat fullShare (sliceTy (tyRef (named 1) mut (pointee (Ms.the-row .written)))) l₃ 0 s₁) ∷ ‵ (fat fullShare (sliceTy (tyRef (named 0) mut (pointee (Ac.the-row .written)))) l₂ 0 s₀) ∷ ‵ (fat fullShare Sz′.mir l₁ 0 (valSz z)) ∷ ‵ (froom An′.mir l₀ 0) ∷ Dies ∷ []) (runs C Λ En pieces.t-1 (atRet En Post))
       part-1 =
           calls-value ! fm (party-of.signature .params) u64 (party-of.ended .kept) (party-of.clauses 𝓤 H A mem run) known-party-of (valsEv, (valsMs, tt)) (makesEv, (makesMs, tt)) (vint w64) (uint-tells w64)
-          (e, (m, tt)) (ge, (gm, tt)) tt (id⊢ 𝓤 (emp 𝓤)) i (λ r e′. id⊢ 𝓤 (fact 𝓤 (r ≡ i))) (and-local ! 28 refl (and-local ! 26 refl (no-more !))) (λ g7.
+          (e, (m, tt)) (ge, (gm, tt)) tt (id⊢ 𝓤 (emp 𝓤)) i (λ r e′. id⊢ 𝓤 (fact 𝓤 (r ≡ i))) (locals ! (28 ∷ 26 ∷ []) (refl, (refl, tt))) (λ g7.
           land-in ! 24 refl (tt, record { fits = g7 .1 }) $
           calls-value ! fm (acceptor-at.signature .params) Ai.the-row (acceptor-at.ended .kept) (acceptor-at.clauses 𝓤 H A mem run) known-acceptor-at (valsSz, (uint-vals w64, tt)) (makesSz, (uint-makes 𝓤 H A W w64, tt)) valAi (LL.tells Ai.the-type Ai′.the-laws)
-          (z, (i, tt)) (gz, (g7, tt)) tt (factI 𝓤 _ (emp 𝓤) (fit .1 .1 .0)) id (λ r e′. id⊢ 𝓤 (fact 𝓤 (r ≡ id))) (and-local ! 31 refl (and-local ! 25 refl (no-more !))) (λ g8.
+          (z, (i, tt)) (gz, (g7, tt)) tt (factI 𝓤 _ (emp 𝓤) (fit .1 .1 .0)) id (λ r e′. id⊢ 𝓤 (fact 𝓤 (r ≡ id))) (locals ! (31 ∷ 25 ∷ []) (refl, (refl, tt))) (λ g8.
           land-in ! 23 refl (typedAi id g8) $
           part-2 g7 g8))
 

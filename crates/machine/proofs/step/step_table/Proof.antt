@@ -18,7 +18,7 @@ use ghost.Atoms.{Atoms}
 use contract.Monad.{Fun, fact, factI, fact-mono}
 use contract.Running.{givenOf, tables, tablesOf}
 use types.Kit.{Given, Item, ‵, _⊛_, ⋆, runs, atRet, Sq, _$_, _∵_, !, qed, by, move, keep, split, join, fsplit, fjoin, suffices, frame, done}
-use types.Run.{look, init, forget, no-more, returns, enter, params1, pass1, pass0}
+use types.Run.{look, init, forget, returns, enter, params1, pass1, pass0}
 use sound.WpLaws.{FmC, fmOf, WpFn-mono}
 use denote.RattleType.{owns}
 use denote.Laws.{Is, Makes}
@@ -46,7 +46,7 @@ use Rattle.machine.specs.Stepping.{indexIn, partyOf}
 use Rattle.machine.specs.Roles.{proposerAt, acceptorAt, decisionAt, finishedAt, stepAt, OfTable}
 use Rattle.model.specs.Records.{freshProposer, freshAcceptor, freshLearner}
 use Rattle.machine.proofs.Frees.{full, bare, allocates, frees-all}
-use Rattle.machine.proofs.Moves.{and-local, land-in, lends-again}
+use Rattle.machine.proofs.Moves.{locals, land-in, lends-again}
 use Rattle.machine.proofs.Relending.{Slice, listAt}
 use Rattle.machine.proofs.CallsByValue.{calls-value}
 use Rattle.machine.proofs.CallsLending.{calls-shared, calls-lent}
@@ -292,7 +292,7 @@ module _ {M : Type 1} (𝓤 : URA M) (H : Heap 𝓤) (A : Atoms 𝓤) (W : Given
           ∷ ‵ (froom (sliceTy (tyRef erased mut (pointee (Ms.the-row .written)))) l₁₈ 0) ∷ ‵ (froom (tyRef erased mut (pointee (Ms.the-row .written))) l₁₇ 0) ∷ ‵ (froom (sliceTy (tyRef erased mut (pointee (Ms.the-row .written)))) l₁₆ 0) ∷ ‵ (froom (tyRef erased mut (pointee (Ms.the-row .written))) l₁₅ 0) ∷ ‵ (froom tyUnit l₁₄ 0) ∷ ‵ (froom (sliceTy (tyRef erased imm (pointee (Ms.the-row .written)))) l₁₃ 0) ∷ ‵ (froom (tyRef erased imm (pointee (Ms.the-row .written))) l₁₂ 0) ∷ ‵ (fat fullShare Sd′.mir l₁₁ 0 (valSd (f .change .send))) ∷ ‵ (fat fullShare Ms′.mir l₁₀ 0 (valMs m′)) ∷ ‵ (fat fullShare Dn′.mir l₉ 0 (valDn f)) ∷ ‵ (fat fullShare byte l₈ 0 (vint w8 (lacking (d .need) t))) ∷ ‵ (fat fullShare byte l₇ 0 (vint w8 (d .need))) ∷ ‵ (fat fullShare Dn′.mir l₆ 0 (valDn d)) ∷ ‵ (fat fullShare Ms′.mir l₅ 0 (valMs m)) ∷ ‵ (fat fullShare word l₄ 0 (vint w64 k)) ∷ ‵ (fat fullShare Ev′.mir l₃ 0 (valEv e)) ∷ ‵ (fat fullShare (sliceTy (tyRef (named 0) mut (pointee (Ms.the-row .written)))) l₂ 0 s₀) ∷ ‵ (fat fullShare Sz′.mir l₁ 0 (valSz z)) ∷ ‵ (froom An′.mir l₀ 0) ∷ Dies ∷ []) (runs C Λ En pieces.t-15 (atRet En Post))
       part-5 g6 g7 g8 g9 g10 g11 e18 =
           calls-value ! fm (arms-reply.signature .params) An.the-row (arms-reply.ended .kept) (arms-reply.clauses 𝓤 H A mem run) known-arms-reply (valsEv, (valsDn, tt)) (makesEv, (makesDn, tt)) valAn (EL.tells An.the-type An′.the-laws)
-          (e, (f, tt)) (ge, (g9, tt)) tt (id⊢ 𝓤 (emp 𝓤)) r₀ (λ r e′. id⊢ 𝓤 (fact 𝓤 (r ≡ r₀))) (and-local ! 18 refl (and-local ! 12 refl (no-more !))) (λ g0.
+          (e, (f, tt)) (ge, (g9, tt)) tt (id⊢ 𝓤 (emp 𝓤)) r₀ (λ r e′. id⊢ 𝓤 (fact 𝓤 (r ≡ r₀))) (locals ! (18 ∷ 12 ∷ []) (refl, (refl, tt))) (λ g0.
           land-in ! 20 refl (typedAn r₀ g0) $
           returns ! (look ! 20 refl) $ frees-all ! 2 (bare _ _ ∷ bare _ _ ∷ bare _ _ ∷ bare _ _ ∷ bare _ _ ∷ bare _ _ ∷ bare _ _ ∷ full _ _ _ ∷ full _ _ _ ∷ full _ _ _ ∷ full _ _ _ ∷ full _ _ _ ∷ full _ _ _ ∷ full _ _ _ ∷ full _ _ _ ∷ full _ _ _ ∷ full _ _ _ ∷ full _ _ _ ∷ full _ _ _ ∷ []) refl refl $
           keep ! (0 ∷ 1 ∷ []) $ by ! (exits g0 e18))
@@ -301,11 +301,11 @@ module _ {M : Type 1} (𝓤 : URA M) (H : Heap 𝓤) (A : Atoms 𝓤) (W : Given
           ∷ ‵ (froom (sliceTy (tyRef erased mut (pointee (Ms.the-row .written)))) l₁₈ 0) ∷ ‵ (froom (tyRef erased mut (pointee (Ms.the-row .written))) l₁₇ 0) ∷ ‵ (froom (sliceTy (tyRef erased mut (pointee (Ms.the-row .written)))) l₁₆ 0) ∷ ‵ (froom (tyRef erased mut (pointee (Ms.the-row .written))) l₁₅ 0) ∷ ‵ (froom tyUnit l₁₄ 0) ∷ ‵ (froom (sliceTy (tyRef erased imm (pointee (Ms.the-row .written)))) l₁₃ 0) ∷ ‵ (froom (tyRef erased imm (pointee (Ms.the-row .written))) l₁₂ 0) ∷ ‵ (froom Sd′.mir l₁₁ 0) ∷ ‵ (fat fullShare Ms′.mir l₁₀ 0 (valMs m′)) ∷ ‵ (fat fullShare Dn′.mir l₉ 0 (valDn f)) ∷ ‵ (fat fullShare byte l₈ 0 (vint w8 (lacking (d .need) t))) ∷ ‵ (fat fullShare byte l₇ 0 (vint w8 (d .need))) ∷ ‵ (fat fullShare Dn′.mir l₆ 0 (valDn d)) ∷ ‵ (fat fullShare Ms′.mir l₅ 0 (valMs m)) ∷ ‵ (fat fullShare word l₄ 0 (vint w64 k)) ∷ ‵ (fat fullShare Ev′.mir l₃ 0 (valEv e)) ∷ ‵ (fat fullShare (sliceTy (tyRef (named 0) mut (pointee (Ms.the-row .written)))) l₂ 0 s₀) ∷ ‵ (fat fullShare Sz′.mir l₁ 0 (valSz z)) ∷ ‵ (froom An′.mir l₀ 0) ∷ Dies ∷ []) (runs C Λ En pieces.t-11 (atRet En Post))
       part-4 g6 g7 g8 g9 g10 e16 =
           calls-value ! fm (send-in.signature .params) Sd.the-row (send-in.ended .kept) (send-in.clauses 𝓤 H A mem run) known-send-in (valsDn, tt) (makesDn, tt) valSd (LL.tells Sd.the-type Sd′.the-laws)
-          (f, tt) (g9, tt) tt (id⊢ 𝓤 (emp 𝓤)) (f .change .send) (λ r e′. id⊢ 𝓤 (fact 𝓤 (r ≡ (f .change .send)))) (and-local ! 12 refl (no-more !)) (λ g11.
+          (f, tt) (g9, tt) tt (id⊢ 𝓤 (emp 𝓤)) (f .change .send) (λ r e′. id⊢ 𝓤 (fact 𝓤 (r ≡ (f .change .send)))) (locals ! (12 ∷ []) (refl, tt)) (λ g11.
           land-in ! 9 refl (typedSd (f .change .send) g11) $
           lends-again ! 18 3 2 refl refl refl refl (tt, tt) refl refl (tt, (tt, (record { fits = room₀ .0 }, tt))) refl $
           calls-lent ! fm Ms.the-row (plain (λ _. Sd.the-row) ∷ []) Nothing (yes, tt) (λ _. vunit) nothing-tells b₀ o₀ n₀ t₁ e16 (λ ν. (valsSd, tt)) (λ ν. (makesSd, tt)) (λ ν. ((f .change .send), tt)) (λ ν. (g11, tt))
-          (send-all.clauses 𝓤 H A mem run) known-send-all room₀ tt t′ (λ ν δ. tt) (λ ν δ. factI 𝓤 _ (emp 𝓤) ready) (λ ν δ r ws. fact-mono 𝓤 (ws .0 ≡ t′) ((r ≡ tt) × (ws .0 ≡ t′)) (λ e′. (refl, e′))) (λ ν δ. (and-local ! 2 refl (and-local ! 9 refl (no-more !)))) (λ _ e18.
+          (send-all.clauses 𝓤 H A mem run) known-send-all room₀ tt t′ (λ ν δ. tt) (λ ν δ. factI 𝓤 _ (emp 𝓤) ready) (λ ν δ r ws. fact-mono 𝓤 (ws .0 ≡ t′) ((r ≡ tt) × (ws .0 ≡ t′)) (λ e′. (refl, e′))) (λ ν δ. (locals ! (2 ∷ 9 ∷ []) (refl, (refl, tt)))) (λ _ e18.
           land-in ! 6 refl (tt, tt) $
           forget ! 6 refl $
           forget ! 3 refl $
@@ -316,11 +316,11 @@ module _ {M : Type 1} (𝓤 : URA M) (H : Heap 𝓤) (A : Atoms 𝓤) (W : Given
           ∷ ‵ (froom (sliceTy (tyRef erased mut (pointee (Ms.the-row .written)))) l₁₈ 0) ∷ ‵ (froom (tyRef erased mut (pointee (Ms.the-row .written))) l₁₇ 0) ∷ ‵ (froom (sliceTy (tyRef erased mut (pointee (Ms.the-row .written)))) l₁₆ 0) ∷ ‵ (froom (tyRef erased mut (pointee (Ms.the-row .written))) l₁₅ 0) ∷ ‵ (froom tyUnit l₁₄ 0) ∷ ‵ (froom (sliceTy (tyRef erased imm (pointee (Ms.the-row .written)))) l₁₃ 0) ∷ ‵ (froom (tyRef erased imm (pointee (Ms.the-row .written))) l₁₂ 0) ∷ ‵ (froom Sd′.mir l₁₁ 0) ∷ ‵ (froom Ms′.mir l₁₀ 0) ∷ ‵ (fat fullShare Dn′.mir l₉ 0 (valDn f)) ∷ ‵ (fat fullShare byte l₈ 0 (vint w8 (lacking (d .need) t))) ∷ ‵ (fat fullShare byte l₇ 0 (vint w8 (d .need))) ∷ ‵ (fat fullShare Dn′.mir l₆ 0 (valDn d)) ∷ ‵ (fat fullShare Ms′.mir l₅ 0 (valMs m)) ∷ ‵ (fat fullShare word l₄ 0 (vint w64 k)) ∷ ‵ (fat fullShare Ev′.mir l₃ 0 (valEv e)) ∷ ‵ (fat fullShare (sliceTy (tyRef (named 0) mut (pointee (Ms.the-row .written)))) l₂ 0 s₀) ∷ ‵ (fat fullShare Sz′.mir l₁ 0 (valSz z)) ∷ ‵ (froom An′.mir l₀ 0) ∷ Dies ∷ []) (runs C Λ En pieces.t-7 (atRet En Post))
       part-3 g6 g7 g8 g9 =
           calls-value ! fm (slot-in.signature .params) Ms.the-row (slot-in.ended .kept) (slot-in.clauses 𝓤 H A mem run) known-slot-in (valsDn, (valsMs, tt)) (makesDn, (makesMs, tt)) valMs (LL.tells Ms.the-type Ms′.the-laws)
-          (f, (m, tt)) (g9, (gm, tt)) tt (id⊢ 𝓤 (emp 𝓤)) m′ (λ r e′. id⊢ 𝓤 (fact 𝓤 (r ≡ m′))) (and-local ! 12 refl (and-local ! 16 refl (no-more !))) (λ g10.
+          (f, (m, tt)) (g9, (gm, tt)) tt (id⊢ 𝓤 (emp 𝓤)) m′ (λ r e′. id⊢ 𝓤 (fact 𝓤 (r ≡ m′))) (locals ! (12 ∷ 16 ∷ []) (refl, (refl, tt))) (λ g10.
           land-in ! 10 refl (typedMs m′ g10) $
           lends-again ! 18 5 4 refl refl refl refl (tt, tt) refl refl (tt, (tt, (record { fits = room₀ .0 }, tt))) refl $
           calls-lent ! fm Ms.the-row (plain (λ _. usize) ∷ plain (λ _. Ms.the-row) ∷ []) Nothing (yes, (yes, tt)) (λ _. vunit) nothing-tells b₀ o₀ n₀ t refl (λ ν. (uint-vals w64, (valsMs, tt))) (λ ν. (uint-makes 𝓤 H A W w64, (makesMs, tt))) (λ ν. (k, (m′, tt))) (λ ν. (gk, (g10, tt)))
-          (store-message.clauses 𝓤 H A mem run) known-store-message room₀ tt t₁ (λ ν δ. tt) (λ ν δ. factI 𝓤 _ (emp 𝓤) in-k) (λ ν δ r ws. fact-mono 𝓤 (ws .0 ≡ t₁) ((r ≡ tt) × (ws .0 ≡ t₁)) (λ e′. (refl, e′))) (λ ν δ. (and-local ! 4 refl (and-local ! 16 refl (and-local ! 10 refl (no-more !))))) (λ _ e16.
+          (store-message.clauses 𝓤 H A mem run) known-store-message room₀ tt t₁ (λ ν δ. tt) (λ ν δ. factI 𝓤 _ (emp 𝓤) in-k) (λ ν δ r ws. fact-mono 𝓤 (ws .0 ≡ t₁) ((r ≡ tt) × (ws .0 ≡ t₁)) (λ e′. (refl, e′))) (λ ν δ. (locals ! (4 ∷ 16 ∷ 10 ∷ []) (refl, (refl, (refl, tt))))) (λ _ e16.
           land-in ! 6 refl (tt, tt) $
           forget ! 6 refl $
           forget ! 5 refl $
@@ -332,10 +332,10 @@ module _ {M : Type 1} (𝓤 : URA M) (H : Heap 𝓤) (A : Atoms 𝓤) (W : Given
       part-2 g6 g7 =
           lends-again ! 18 8 7 refl refl refl refl (tt, tt) refl refl (tt, (tt, (record { fits = room₀ .0 }, tt))) refl $
           calls-shared ! fm Ms.the-row (plain (λ _. u8) ∷ []) u8 (yes, tt) (vint w8) (uint-tells w8) b₀ o₀ n₀ t refl (λ ν. (uint-vals w8, tt)) (λ ν. (uint-makes 𝓤 H A W w8, tt)) (λ ν. ((d .need), tt)) (λ ν. (g7, tt))
-          (room.clauses 𝓤 H A mem run) known-room (lacking (d .need) t) (λ ν δ. tt) (λ ν δ. id⊢ 𝓤 (emp 𝓤)) (λ ν δ r e′. id⊢ 𝓤 (fact 𝓤 (r ≡ (lacking (d .need) t)))) (λ ν δ. (and-local ! 10 refl (and-local ! 16 refl (no-more !)))) (λ g8.
+          (room.clauses 𝓤 H A mem run) known-room (lacking (d .need) t) (λ ν δ. tt) (λ ν δ. id⊢ 𝓤 (emp 𝓤)) (λ ν δ r e′. id⊢ 𝓤 (fact 𝓤 (r ≡ (lacking (d .need) t)))) (λ ν δ. (locals ! (10 ∷ 16 ∷ []) (refl, (refl, tt)))) (λ g8.
           land-in ! 12 refl (tt, record { fits = g8 .1 }) $
           calls-value ! fm (finish-table.signature .params) Dn.the-row (finish-table.ended .kept) (finish-table.clauses 𝓤 H A mem run) known-finish-table (valsDn, (uint-vals w8, tt)) (makesDn, (uint-makes 𝓤 H A W w8, tt)) valDn (LL.tells Dn.the-type Dn′.the-laws)
-          (d, ((lacking (d .need) t), tt)) (g6, (g8, tt)) tt (id⊢ 𝓤 (emp 𝓤)) f (λ r e′. id⊢ 𝓤 (fact 𝓤 (r ≡ f))) (and-local ! 15 refl (and-local ! 13 refl (no-more !))) (λ g9.
+          (d, ((lacking (d .need) t), tt)) (g6, (g8, tt)) tt (id⊢ 𝓤 (emp 𝓤)) f (λ r e′. id⊢ 𝓤 (fact 𝓤 (r ≡ f))) (locals ! (15 ∷ 13 ∷ []) (refl, (refl, tt))) (λ g9.
           land-in ! 11 refl (typedDn f g9) $
           forget ! 8 refl $
           forget ! 7 refl $
@@ -345,10 +345,10 @@ module _ {M : Type 1} (𝓤 : URA M) (H : Heap 𝓤) (A : Atoms 𝓤) (W : Given
           ∷ ‵ (froom (sliceTy (tyRef erased mut (pointee (Ms.the-row .written)))) l₁₈ 0) ∷ ‵ (froom (tyRef erased mut (pointee (Ms.the-row .written))) l₁₇ 0) ∷ ‵ (froom (sliceTy (tyRef erased mut (pointee (Ms.the-row .written)))) l₁₆ 0) ∷ ‵ (froom (tyRef erased mut (pointee (Ms.the-row .written))) l₁₅ 0) ∷ ‵ (froom tyUnit l₁₄ 0) ∷ ‵ (froom (sliceTy (tyRef erased imm (pointee (Ms.the-row .written)))) l₁₃ 0) ∷ ‵ (froom (tyRef erased imm (pointee (Ms.the-row .written))) l₁₂ 0) ∷ ‵ (froom Sd′.mir l₁₁ 0) ∷ ‵ (froom Ms′.mir l₁₀ 0) ∷ ‵ (froom Dn′.mir l₉ 0) ∷ ‵ (froom byte l₈ 0) ∷ ‵ (froom byte l₇ 0) ∷ ‵ (froom Dn′.mir l₆ 0) ∷ ‵ (fat fullShare Ms′.mir l₅ 0 (valMs m)) ∷ ‵ (fat fullShare word l₄ 0 (vint w64 k)) ∷ ‵ (fat fullShare Ev′.mir l₃ 0 (valEv e)) ∷ ‵ (fat fullShare (sliceTy (tyRef (named 0) mut (pointee (Ms.the-row .written)))) l₂ 0 s₀) ∷ ‵ (fat fullShare Sz′.mir l₁ 0 (valSz z)) ∷ ‵ (froom An′.mir l₀ 0) ∷ Dies ∷ []) (runs C Λ En pieces.t-1 (atRet En Post))
       part-1 =
           calls-value ! fm (arms-decide-table.signature .params) Dn.the-row (arms-decide-table.ended .kept) (arms-decide-table.clauses 𝓤 H A mem run) known-arms-decide-table (valsSz, (valsEv, (valsMs, tt))) (makesSz, (makesEv, (makesMs, tt))) valDn (LL.tells Dn.the-type Dn′.the-laws)
-          (z, (e, (m, tt))) (gz, (ge, (gm, tt))) tt (id⊢ 𝓤 (emp 𝓤)) d (λ r e′. fact-mono 𝓤 (r ≡ decidedIn 0 z e m freshProposer freshAcceptor) (r ≡ d) (λ p. p ∙ decided-in 0 z e m freshProposer freshAcceptor (fit .1 .0) (fit .0))) (and-local ! 20 refl (and-local ! 18 refl (and-local ! 16 refl (no-more !)))) (λ g6.
+          (z, (e, (m, tt))) (gz, (ge, (gm, tt))) tt (id⊢ 𝓤 (emp 𝓤)) d (λ r e′. fact-mono 𝓤 (r ≡ decidedIn 0 z e m freshProposer freshAcceptor) (r ≡ d) (λ p. p ∙ decided-in 0 z e m freshProposer freshAcceptor (fit .1 .0) (fit .0))) (locals ! (20 ∷ 18 ∷ 16 ∷ []) (refl, (refl, (refl, tt)))) (λ g6.
           land-in ! 14 refl (typedDn d g6) $
           calls-value ! fm (need-in.signature .params) u8 (need-in.ended .kept) (need-in.clauses 𝓤 H A mem run) known-need-in (valsDn, tt) (makesDn, tt) (vint w8) (uint-tells w8)
-          (d, tt) (g6, tt) tt (id⊢ 𝓤 (emp 𝓤)) (d .need) (λ r e′. id⊢ 𝓤 (fact 𝓤 (r ≡ (d .need)))) (and-local ! 15 refl (no-more !)) (λ g7.
+          (d, tt) (g6, tt) tt (id⊢ 𝓤 (emp 𝓤)) (d .need) (λ r e′. id⊢ 𝓤 (fact 𝓤 (r ≡ (d .need)))) (locals ! (15 ∷ []) (refl, tt)) (λ g7.
           land-in ! 13 refl (tt, record { fits = g7 .1 }) $
           part-2 g6 g7))
 

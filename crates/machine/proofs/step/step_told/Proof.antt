@@ -18,7 +18,7 @@ use ghost.Atoms.{Atoms}
 use contract.Monad.{Fun, fact, factI, fact-mono}
 use contract.Running.{givenOf, tables, tablesOf}
 use types.Kit.{Given, Item, ‵, _⊛_, ⋆, runs, atRet, Sq, _$_, _∵_, !, qed, by, move, keep, split, join, fsplit, fjoin, suffices, frame, done}
-use types.Run.{look, init, forget, no-more, returns, enter, params1, pass1, pass0}
+use types.Run.{look, init, forget, returns, enter, params1, pass1, pass0}
 use sound.WpLaws.{FmC, fmOf, WpFn-mono}
 use denote.RattleType.{owns}
 use denote.Laws.{Is, Makes}
@@ -46,7 +46,7 @@ use Rattle.machine.specs.Stepping.{indexIn, partyOf}
 use Rattle.machine.specs.Roles.{proposerAt, acceptorAt, decisionAt, finishedAt, stepAt, OfTold}
 use Rattle.model.specs.Records.{freshProposer, freshAcceptor, freshLearner}
 use Rattle.machine.proofs.Frees.{full, bare, allocates, frees-all}
-use Rattle.machine.proofs.Moves.{and-local, land-in, lends-again}
+use Rattle.machine.proofs.Moves.{locals, land-in, lends-again}
 use Rattle.machine.proofs.Relending.{Slice, listAt}
 use Rattle.machine.proofs.CallsByValue.{calls-value}
 use Rattle.machine.proofs.CallsLending.{calls-shared, calls-lent}
@@ -319,7 +319,7 @@ module _ {M : Type 1} (𝓤 : URA M) (H : Heap 𝓤) (A : Atoms 𝓤) (W : Given
           ∷ ‵ (froom (sliceTy (tyRef erased mut (pointee (Ms.the-row .written)))) l₁₉ 0) ∷ ‵ (froom (tyRef erased mut (pointee (Ms.the-row .written))) l₁₈ 0) ∷ ‵ (froom (sliceTy (tyRef erased mut (pointee (Pr.the-row .written)))) l₁₇ 0) ∷ ‵ (froom (tyRef erased mut (pointee (Pr.the-row .written))) l₁₆ 0) ∷ ‵ (froom tyUnit l₁₅ 0) ∷ ‵ (froom (sliceTy (tyRef erased imm (pointee (Pr.the-row .written)))) l₁₄ 0) ∷ ‵ (froom (tyRef erased imm (pointee (Pr.the-row .written))) l₁₃ 0) ∷ ‵ (fat fullShare Ms′.mir l₁₂ 0 (valMs m′)) ∷ ‵ (fat fullShare Pr′.mir l₁₁ 0 (valPr (f .change .proposer))) ∷ ‵ (fat fullShare Dn′.mir l₁₀ 0 (valDn f)) ∷ ‵ (fat fullShare Pr′.mir l₉ 0 (valPr q)) ∷ ‵ (fat fullShare Pi′.mir l₈ 0 (valPi pid)) ∷ ‵ (fat fullShare word l₇ 0 (vint w64 i)) ∷ ‵ (fat fullShare Ms′.mir l₆ 0 (valMs m)) ∷ ‵ (fat fullShare word l₅ 0 (vint w64 k)) ∷ ‵ (fat fullShare Ev′.mir l₄ 0 (valEv e)) ∷ ‵ (fat fullShare (sliceTy (tyRef (named 1) mut (pointee (Ms.the-row .written)))) l₃ 0 s₁) ∷ ‵ (fat fullShare (sliceTy (tyRef (named 0) mut (pointee (Pr.the-row .written)))) l₂ 0 s₀) ∷ ‵ (fat fullShare Sz′.mir l₁ 0 (valSz z)) ∷ ‵ (froom An′.mir l₀ 0) ∷ Dies ∷ []) (runs C Λ En pieces.t-15 (atRet En Post))
       part-5 g7 g8 g9 g10 g11 g12 e17 e19 =
           calls-value ! fm (arms-reply.signature .params) An.the-row (arms-reply.ended .kept) (arms-reply.clauses 𝓤 H A mem run) known-arms-reply (valsEv, (valsDn, tt)) (makesEv, (makesDn, tt)) valAn (EL.tells An.the-type An′.the-laws)
-          (e, (f, tt)) (ge, (g10, tt)) tt (id⊢ 𝓤 (emp 𝓤)) r₀ (λ r e′. id⊢ 𝓤 (fact 𝓤 (r ≡ r₀))) (and-local ! 20 refl (and-local ! 14 refl (no-more !))) (λ g0.
+          (e, (f, tt)) (ge, (g10, tt)) tt (id⊢ 𝓤 (emp 𝓤)) r₀ (λ r e′. id⊢ 𝓤 (fact 𝓤 (r ≡ r₀))) (locals ! (20 ∷ 14 ∷ []) (refl, (refl, tt))) (λ g0.
           land-in ! 23 refl (typedAn r₀ g0) $
           returns ! (look ! 23 refl) $ frees-all ! 4 (bare _ _ ∷ bare _ _ ∷ bare _ _ ∷ bare _ _ ∷ bare _ _ ∷ bare _ _ ∷ bare _ _ ∷ full _ _ _ ∷ full _ _ _ ∷ full _ _ _ ∷ full _ _ _ ∷ full _ _ _ ∷ full _ _ _ ∷ full _ _ _ ∷ full _ _ _ ∷ full _ _ _ ∷ full _ _ _ ∷ full _ _ _ ∷ full _ _ _ ∷ full _ _ _ ∷ []) refl refl $
           keep ! (2 ∷ 3 ∷ 0 ∷ 1 ∷ []) $ by ! (exits g0 e17 e19))
@@ -328,12 +328,12 @@ module _ {M : Type 1} (𝓤 : URA M) (H : Heap 𝓤) (A : Atoms 𝓤) (W : Given
           ∷ ‵ (froom (sliceTy (tyRef erased mut (pointee (Ms.the-row .written)))) l₁₉ 0) ∷ ‵ (froom (tyRef erased mut (pointee (Ms.the-row .written))) l₁₈ 0) ∷ ‵ (froom (sliceTy (tyRef erased mut (pointee (Pr.the-row .written)))) l₁₇ 0) ∷ ‵ (froom (tyRef erased mut (pointee (Pr.the-row .written))) l₁₆ 0) ∷ ‵ (froom tyUnit l₁₅ 0) ∷ ‵ (froom (sliceTy (tyRef erased imm (pointee (Pr.the-row .written)))) l₁₄ 0) ∷ ‵ (froom (tyRef erased imm (pointee (Pr.the-row .written))) l₁₃ 0) ∷ ‵ (froom Ms′.mir l₁₂ 0) ∷ ‵ (fat fullShare Pr′.mir l₁₁ 0 (valPr (f .change .proposer))) ∷ ‵ (fat fullShare Dn′.mir l₁₀ 0 (valDn f)) ∷ ‵ (fat fullShare Pr′.mir l₉ 0 (valPr q)) ∷ ‵ (fat fullShare Pi′.mir l₈ 0 (valPi pid)) ∷ ‵ (fat fullShare word l₇ 0 (vint w64 i)) ∷ ‵ (fat fullShare Ms′.mir l₆ 0 (valMs m)) ∷ ‵ (fat fullShare word l₅ 0 (vint w64 k)) ∷ ‵ (fat fullShare Ev′.mir l₄ 0 (valEv e)) ∷ ‵ (fat fullShare (sliceTy (tyRef (named 1) mut (pointee (Ms.the-row .written)))) l₃ 0 s₁) ∷ ‵ (fat fullShare (sliceTy (tyRef (named 0) mut (pointee (Pr.the-row .written)))) l₂ 0 s₀) ∷ ‵ (fat fullShare Sz′.mir l₁ 0 (valSz z)) ∷ ‵ (froom An′.mir l₀ 0) ∷ Dies ∷ []) (runs C Λ En pieces.t-11 (atRet En Post))
       part-4 g7 g8 g9 g10 g11 e17 =
           calls-value ! fm (slot-in.signature .params) Ms.the-row (slot-in.ended .kept) (slot-in.clauses 𝓤 H A mem run) known-slot-in (valsDn, (valsMs, tt)) (makesDn, (makesMs, tt)) valMs (LL.tells Ms.the-type Ms′.the-laws)
-          (f, (m, tt)) (g10, (gm, tt)) tt (id⊢ 𝓤 (emp 𝓤)) m′ (λ r e′. id⊢ 𝓤 (fact 𝓤 (r ≡ m′))) (and-local ! 14 refl (and-local ! 18 refl (no-more !))) (λ g12.
+          (f, (m, tt)) (g10, (gm, tt)) tt (id⊢ 𝓤 (emp 𝓤)) m′ (λ r e′. id⊢ 𝓤 (fact 𝓤 (r ≡ m′))) (locals ! (14 ∷ 18 ∷ []) (refl, (refl, tt))) (λ g12.
           land-in ! 11 refl (typedMs m′ g12) $
           lends-again ! 20 5 4 refl refl refl refl (tt, tt) refl refl (tt, (tt, (record { fits = room₁ .0 }, tt))) refl $
           move ! (2 ∷ 3 ∷ []) $
           calls-lent ! fm Ms.the-row (plain (λ _. usize) ∷ plain (λ _. Ms.the-row) ∷ []) Nothing (yes, (yes, tt)) (λ _. vunit) nothing-tells b₁ o₁ n₁ t refl (λ ν. (uint-vals w64, (valsMs, tt))) (λ ν. (uint-makes 𝓤 H A W w64, (makesMs, tt))) (λ ν. (k, (m′, tt))) (λ ν. (gk, (g12, tt)))
-          (store-message.clauses 𝓤 H A mem run) known-store-message room₁ tt t′ (λ ν δ. tt) (λ ν δ. factI 𝓤 _ (emp 𝓤) in-k) (λ ν δ r ws. fact-mono 𝓤 (ws .0 ≡ t′) ((r ≡ tt) × (ws .0 ≡ t′)) (λ e′. (refl, e′))) (λ ν δ. (and-local ! 4 refl (and-local ! 18 refl (and-local ! 11 refl (no-more !))))) (λ _ e19.
+          (store-message.clauses 𝓤 H A mem run) known-store-message room₁ tt t′ (λ ν δ. tt) (λ ν δ. factI 𝓤 _ (emp 𝓤) in-k) (λ ν δ r ws. fact-mono 𝓤 (ws .0 ≡ t′) ((r ≡ tt) × (ws .0 ≡ t′)) (λ e′. (refl, e′))) (λ ν δ. (locals ! (4 ∷ 18 ∷ 11 ∷ []) (refl, (refl, (refl, tt))))) (λ _ e19.
           land-in ! 8 refl (tt, tt) $
           forget ! 8 refl $
           forget ! 5 refl $
@@ -344,11 +344,11 @@ module _ {M : Type 1} (𝓤 : URA M) (H : Heap 𝓤) (A : Atoms 𝓤) (W : Given
           ∷ ‵ (froom (sliceTy (tyRef erased mut (pointee (Ms.the-row .written)))) l₁₉ 0) ∷ ‵ (froom (tyRef erased mut (pointee (Ms.the-row .written))) l₁₈ 0) ∷ ‵ (froom (sliceTy (tyRef erased mut (pointee (Pr.the-row .written)))) l₁₇ 0) ∷ ‵ (froom (tyRef erased mut (pointee (Pr.the-row .written))) l₁₆ 0) ∷ ‵ (froom tyUnit l₁₅ 0) ∷ ‵ (froom (sliceTy (tyRef erased imm (pointee (Pr.the-row .written)))) l₁₄ 0) ∷ ‵ (froom (tyRef erased imm (pointee (Pr.the-row .written))) l₁₃ 0) ∷ ‵ (froom Ms′.mir l₁₂ 0) ∷ ‵ (froom Pr′.mir l₁₁ 0) ∷ ‵ (fat fullShare Dn′.mir l₁₀ 0 (valDn f)) ∷ ‵ (fat fullShare Pr′.mir l₉ 0 (valPr q)) ∷ ‵ (fat fullShare Pi′.mir l₈ 0 (valPi pid)) ∷ ‵ (fat fullShare word l₇ 0 (vint w64 i)) ∷ ‵ (fat fullShare Ms′.mir l₆ 0 (valMs m)) ∷ ‵ (fat fullShare word l₅ 0 (vint w64 k)) ∷ ‵ (fat fullShare Ev′.mir l₄ 0 (valEv e)) ∷ ‵ (fat fullShare (sliceTy (tyRef (named 1) mut (pointee (Ms.the-row .written)))) l₃ 0 s₁) ∷ ‵ (fat fullShare (sliceTy (tyRef (named 0) mut (pointee (Pr.the-row .written)))) l₂ 0 s₀) ∷ ‵ (fat fullShare Sz′.mir l₁ 0 (valSz z)) ∷ ‵ (froom An′.mir l₀ 0) ∷ Dies ∷ []) (runs C Λ En pieces.t-7 (atRet En Post))
       part-3 g7 g8 g9 g10 =
           calls-value ! fm (proposer-in.signature .params) Pr.the-row (proposer-in.ended .kept) (proposer-in.clauses 𝓤 H A mem run) known-proposer-in (valsDn, tt) (makesDn, tt) valPr (LL.tells Pr.the-type Pr′.the-laws)
-          (f, tt) (g10, tt) tt (id⊢ 𝓤 (emp 𝓤)) (f .change .proposer) (λ r e′. id⊢ 𝓤 (fact 𝓤 (r ≡ (f .change .proposer)))) (and-local ! 14 refl (no-more !)) (λ g11.
+          (f, tt) (g10, tt) tt (id⊢ 𝓤 (emp 𝓤)) (f .change .proposer) (λ r e′. id⊢ 𝓤 (fact 𝓤 (r ≡ (f .change .proposer)))) (locals ! (14 ∷ []) (refl, tt)) (λ g11.
           land-in ! 12 refl (typedPr (f .change .proposer) g11) $
           lends-again ! 21 7 6 refl refl refl refl (tt, tt) refl refl (tt, (tt, (record { fits = room₀ .0 }, tt))) refl $
           calls-lent ! fm Pr.the-row (plain (λ _. Pi.the-row) ∷ plain (λ _. Pr.the-row) ∷ []) Nothing (yes, (yes, tt)) (λ _. vunit) nothing-tells b₀ o₀ n₀ ps refl (λ ν. (valsPi, (valsPr, tt))) (λ ν. (makesPi, (makesPr, tt))) (λ ν. (pid, ((f .change .proposer), tt))) (λ ν. (g8, (g11, tt)))
-          (store-proposer.clauses 𝓤 H A mem run) known-store-proposer room₀ tt ps′ (λ ν δ. tt) (λ ν δ. factI 𝓤 _ (emp 𝓤) in-p) (λ ν δ r ws. fact-mono 𝓤 (ws .0 ≡ ps′) ((r ≡ tt) × (ws .0 ≡ ps′)) (λ e′. (refl, e′))) (λ ν δ. (and-local ! 6 refl (and-local ! 15 refl (and-local ! 12 refl (no-more !))))) (λ _ e17.
+          (store-proposer.clauses 𝓤 H A mem run) known-store-proposer room₀ tt ps′ (λ ν δ. tt) (λ ν δ. factI 𝓤 _ (emp 𝓤) in-p) (λ ν δ r ws. fact-mono 𝓤 (ws .0 ≡ ps′) ((r ≡ tt) × (ws .0 ≡ ps′)) (λ e′. (refl, e′))) (λ ν δ. (locals ! (6 ∷ 15 ∷ 12 ∷ []) (refl, (refl, (refl, tt))))) (λ _ e17.
           land-in ! 8 refl (tt, tt) $
           forget ! 8 refl $
           forget ! 7 refl $
@@ -360,10 +360,10 @@ module _ {M : Type 1} (𝓤 : URA M) (H : Heap 𝓤) (A : Atoms 𝓤) (W : Given
       part-2 g7 g8 =
           lends-again ! 21 10 9 refl refl refl refl (tt, tt) refl refl (tt, (tt, (record { fits = room₀ .0 }, tt))) refl $
           calls-shared ! fm Pr.the-row (plain (λ _. Pi.the-row) ∷ []) Pr.the-row (yes, tt) valPr (LL.tells Pr.the-type Pr′.the-laws) b₀ o₀ n₀ ps refl (λ ν. (valsPi, tt)) (λ ν. (makesPi, tt)) (λ ν. (pid, tt)) (λ ν. (g8, tt))
-          (load-proposer.clauses 𝓤 H A mem run) known-load-proposer q (λ ν δ. tt) (λ ν δ. factI 𝓤 _ (emp 𝓤) in-p) (λ ν δ r e′. id⊢ 𝓤 (fact 𝓤 (r ≡ q))) (λ ν δ. (and-local ! 12 refl (and-local ! 18 refl (no-more !)))) (λ g9.
+          (load-proposer.clauses 𝓤 H A mem run) known-load-proposer q (λ ν δ. tt) (λ ν δ. factI 𝓤 _ (emp 𝓤) in-p) (λ ν δ r e′. id⊢ 𝓤 (fact 𝓤 (r ≡ q))) (λ ν δ. (locals ! (12 ∷ 18 ∷ []) (refl, (refl, tt)))) (λ g9.
           land-in ! 14 refl (typedPr q g9) $
           calls-value ! fm (arms-tell.signature .params) Dn.the-row (arms-tell.ended .kept) (arms-tell.clauses 𝓤 H A mem run) known-arms-tell (valsSz, (valsEv, (valsMs, (valsPr, tt)))) (makesSz, (makesEv, (makesMs, (makesPr, tt)))) valDn (LL.tells Dn.the-type Dn′.the-laws)
-          (z, (e, (m, (q, tt)))) (gz, (ge, (gm, (g9, tt)))) tt (id⊢ 𝓤 (emp 𝓤)) f (λ r e′. fact-mono 𝓤 (r ≡ toldIn z e m q) (r ≡ f) (λ p. p ∙ told-in z e m q (fit .1 .1 .0) (fit .0))) (and-local ! 23 refl (and-local ! 20 refl (and-local ! 18 refl (and-local ! 15 refl (no-more !))))) (λ g10.
+          (z, (e, (m, (q, tt)))) (gz, (ge, (gm, (g9, tt)))) tt (id⊢ 𝓤 (emp 𝓤)) f (λ r e′. fact-mono 𝓤 (r ≡ toldIn z e m q) (r ≡ f) (λ p. p ∙ told-in z e m q (fit .1 .1 .0) (fit .0))) (locals ! (23 ∷ 20 ∷ 18 ∷ 15 ∷ []) (refl, (refl, (refl, (refl, tt))))) (λ g10.
           land-in ! 13 refl (typedDn f g10) $
           forget ! 10 refl $
           forget ! 9 refl $
@@ -373,10 +373,10 @@ module _ {M : Type 1} (𝓤 : URA M) (H : Heap 𝓤) (A : Atoms 𝓤) (W : Given
           ∷ ‵ (froom (sliceTy (tyRef erased mut (pointee (Ms.the-row .written)))) l₁₉ 0) ∷ ‵ (froom (tyRef erased mut (pointee (Ms.the-row .written))) l₁₈ 0) ∷ ‵ (froom (sliceTy (tyRef erased mut (pointee (Pr.the-row .written)))) l₁₇ 0) ∷ ‵ (froom (tyRef erased mut (pointee (Pr.the-row .written))) l₁₆ 0) ∷ ‵ (froom tyUnit l₁₅ 0) ∷ ‵ (froom (sliceTy (tyRef erased imm (pointee (Pr.the-row .written)))) l₁₄ 0) ∷ ‵ (froom (tyRef erased imm (pointee (Pr.the-row .written))) l₁₃ 0) ∷ ‵ (froom Ms′.mir l₁₂ 0) ∷ ‵ (froom Pr′.mir l₁₁ 0) ∷ ‵ (froom Dn′.mir l₁₀ 0) ∷ ‵ (froom Pr′.mir l₉ 0) ∷ ‵ (froom Pi′.mir l₈ 0) ∷ ‵ (froom word l₇ 0) ∷ ‵ (fat fullShare Ms′.mir l₆ 0 (valMs m)) ∷ ‵ (fat fullShare word l₅ 0 (vint w64 k)) ∷ ‵ (fat fullShare Ev′.mir l₄ 0 (valEv e)) ∷ ‵ (fat fullShare (sliceTy (tyRef (named 1) mut (pointee (Ms.the-row .written)))) l₃ 0 s₁) ∷ ‵ (fat fullShare (sliceTy (tyRef (named 0) mut (pointee (Pr.the-row .written)))) l₂ 0 s₀) ∷ ‵ (fat fullShare Sz′.mir l₁ 0 (valSz z)) ∷ ‵ (froom An′.mir l₀ 0) ∷ Dies ∷ []) (runs C Λ En pieces.t-1 (atRet En Post))
       part-1 =
           calls-value ! fm (party-of.signature .params) u64 (party-of.ended .kept) (party-of.clauses 𝓤 H A mem run) known-party-of (valsEv, (valsMs, tt)) (makesEv, (makesMs, tt)) (vint w64) (uint-tells w64)
-          (e, (m, tt)) (ge, (gm, tt)) tt (id⊢ 𝓤 (emp 𝓤)) i (λ r e′. id⊢ 𝓤 (fact 𝓤 (r ≡ i))) (and-local ! 20 refl (and-local ! 18 refl (no-more !))) (λ g7.
+          (e, (m, tt)) (ge, (gm, tt)) tt (id⊢ 𝓤 (emp 𝓤)) i (λ r e′. id⊢ 𝓤 (fact 𝓤 (r ≡ i))) (locals ! (20 ∷ 18 ∷ []) (refl, (refl, tt))) (λ g7.
           land-in ! 16 refl (tt, record { fits = g7 .1 }) $
           calls-value ! fm (proposer-at.signature .params) Pi.the-row (proposer-at.ended .kept) (proposer-at.clauses 𝓤 H A mem run) known-proposer-at (valsSz, (uint-vals w64, tt)) (makesSz, (uint-makes 𝓤 H A W w64, tt)) valPi (LL.tells Pi.the-type Pi′.the-laws)
-          (z, (i, tt)) (gz, (g7, tt)) tt (factI 𝓤 _ (emp 𝓤) (fit .1 .1 .0)) pid (λ r e′. id⊢ 𝓤 (fact 𝓤 (r ≡ pid))) (and-local ! 23 refl (and-local ! 17 refl (no-more !))) (λ g8.
+          (z, (i, tt)) (gz, (g7, tt)) tt (factI 𝓤 _ (emp 𝓤) (fit .1 .1 .0)) pid (λ r e′. id⊢ 𝓤 (fact 𝓤 (r ≡ pid))) (locals ! (23 ∷ 17 ∷ []) (refl, (refl, tt))) (λ g8.
           land-in ! 15 refl (typedPi pid g8) $
           part-2 g7 g8))
 

@@ -70,20 +70,20 @@ def dash(n):
     return n.replace('_', '-')
 
 
-# a function that is called: its module and its name, or, of another crate's type, the crate, the type and the name
+# a function that is called: its module and its name, or, of another crate, the crate, the type or the module, None at its root, and the name
 
 def called_as(f):
     """What the proof calls it."""
-    return dash(f[1]) if len(f) == 2 else '%s-%s' % (f[1].lower(), dash(f[2]))
+    return dash(f[1]) if len(f) == 2 else '%s-%s' % ((f[1] or f[0]).lower(), dash(f[2]))
 
 
 def module_of(f):
-    return '%s.%s.%s' % ((CRATE,) + f) if len(f) == 2 else 'Rattle.%s.proofs.%s.%s' % f
+    return '%s.%s.%s' % ((CRATE,) + f) if len(f) == 2 else '.'.join(['Rattle.%s.proofs' % f[0]] + [x for x in f[1:] if x])
 
 
 def entry_of(f):
     """What the function's code calls the entry of its table."""
-    return 'code.calls-' + '·'.join((('machine', f[0]) if len(f) == 2 else f[:2]) + (dash(f[-1]),))
+    return 'code.calls-' + '·'.join([x for x in (('machine', f[0]) if len(f) == 2 else f[:2]) if x] + [dash(f[-1])])
 
 
 def sub(n):
@@ -346,7 +346,7 @@ class Walk:
         n, g, a = self.cite(f), 'g%d' % d, [self.known[x] for x in args]
         self.say('calls-value ! fm ({0}.signature .params) {1} ({0}.ended .kept) ({0}.clauses 𝓤 H A mem run) known-{0} {2} {3} {4} {5}'.format(
             n, self.f.row(t), tuple_of([self.f.vals(x[0]) for x in a]), tuple_of([self.f.makes(x[0]) for x in a]), self.f.val(t), self.f.tells(t)))
-        ensured = 'fact-mono 𝓤 (r ≡ {0}) (r ≡ {1}) (λ p. p ∙ {2})'.format(said[0], result, said[1]) if said else 'id⊢ 𝓤 (fact 𝓤 (r ≡ %s))' % result
+        ensured = 'fact-mono 𝓤 (r ≡ {0}) (r ≡ {1}) (λ said. said ∙ {2})'.format(said[0], result, said[1]) if said else 'id⊢ 𝓤 (fact 𝓤 (r ≡ %s))' % result
         self.say('%s %s tt %s %s (λ r e′. %s) %s (λ %s.' % (
             tuple_of([x[1] for x in a]), tuple_of([x[2] for x in a]), '(factI 𝓤 _ (emp 𝓤) %s)' % need if need else '(id⊢ 𝓤 (emp 𝓤))', result, ensured, self.operands(args, 1), g))
         self.closes += 1

@@ -1,11 +1,13 @@
 -- What the calls of a step and of a run do, by the tests that they make: these are the tests of the model, and so is what is left.
 --     step-sound, step-left    once where nothing is refused, and otherwise not at all: the records then fit, and what is left is the model's step
+--     sound-first      the refusal of what is out of range comes before every other
 --     run-refused, run-sound, run-left     the same of the first n events
 use mathlib.Core.Path.{_≡_, refl}
-use mathlib.Core.Bool.{Bool, _&&_}
+use mathlib.Core.Bool.{Bool, true, false, _&&_}
 use mathlib.Core.List.{List}
 use Prim.Native.Nat.{ℕ}
 use lib.ListN.{length}
+use Rattle.choice.specs.Tests.{_unless_, refusal, _⨾_, ok}
 use Rattle.sizes.specs.Sizes.{sizesInRange}
 use Rattle.sizes.specs.declared.Sizes.{Sizes}
 use Rattle.model.specs.Ranges.{all, proposerInRange, acceptorInRange, learnerInRange, messageInRange, lengthsInRange, recordsInRange}
@@ -20,6 +22,10 @@ use Rattle.machine.specs.Calls.{lent, runNo, afterRun, logAfterRun}
 use Rattle.machine.specs.Counting.{lengthsAre, soundOf, turnsOf, eventsNo, soundRunOf}
 use Rattle.machine.proofs.StepLaws.{Agrees}
 use Rattle.machine.proofs.RunLaws.{Ends, step-repeats, step-once, run-drives, run-ends}
+
+pub sound-first : (sound : Bool) (rest : ℕ) → (refusal (1 unless sound ⨾ ok) ⨾ rest) ≡ (1 unless sound ⨾ rest)
+sound-first true rest = refl
+sound-first false rest = refl
 
 module _ (z : Sizes) (ps : List Proposer) (acs : List Acceptor) (ls : List Learner) (t : List Message) where
   abbrev sized : Bool

@@ -4,7 +4,7 @@ ghost use mathlib.Core.Bool.{_&&_};
 ghost use Rattle.sizes.specs.Sizes.{sizesInRange};
 ghost use Rattle.machine.specs.Slots.{takenSlot};
 ghost use Rattle.machine.specs.Calls.{lent, saidOf, FreshCall, StepCall, SaidCall, RunCall, WholeRunCall, enoughOf};
-ghost use Rattle.machine.specs.Counting.{lengthsAre, soundOf, soundRunOf, turnsOf, sizedNo, eventsNo, wholeNo};
+ghost use Rattle.machine.specs.Counting.{lengthsAre, soundOf, turnsOf, sizedNo, eventsNo, wholeNo};
 use crate::lent::acceptors_in_range;
 use crate::lent::fill_acceptors;
 use crate::lent::fill_learners;
@@ -18,6 +18,7 @@ use crate::running::repeat;
 use crate::running::said_no;
 use crate::running::said_set;
 use choice::both;
+use choice::first_no;
 use model::Acceptor;
 use model::Answer;
 use model::Event;
@@ -46,10 +47,21 @@ fn fresh_no(z: Sizes, p: usize, a: usize, l: usize, m: usize) -> u8
     if sized(z, p, a, l, m) { 0 } else { 1 }
 }
 
-// 1 where the sizes and lengths, or the records, are out of range.
-fn sound_no(sized: bool, p: bool, a: bool, l: bool, m: bool) -> u8
-    ensures { λ r. ⌜ r ≡ soundOf sized p a l m ⌝ }
+// 1 where the sizes, how many records and slots there are, or what they hold, are out of range.
+fn sound_no(
+    z: Sizes,
+    ps: usize,
+    acs: usize,
+    ls: usize,
+    t: usize,
+    p: bool,
+    a: bool,
+    l: bool,
+    m: bool,
+) -> u8
+    ensures { λ r. ⌜ r ≡ soundOf (sizesInRange z && lengthsAre z ps acs ls t) p a l m ⌝ }
 {
+    let sized = sized(z, ps, acs, ls, t);
     if both(both(both(both(sized, p), a), l), m) {
         0
     } else {
@@ -131,12 +143,11 @@ pub fn single_step(
     ensures { λ r. ⌜ StepCall z (lent (now (ps .entry)) (now (acs .entry)) (now (ls .entry)) (now (t .entry))) e r
         (lent (now (ps .exit)) (now (acs .exit)) (now (ls .exit)) (now (t .exit))) ⌝ }
 {
-    let sized = sized(z, ps.len(), acs.len(), ls.len(), t.len());
     let p = proposers_in_range(ps, z);
     let a = acceptors_in_range(acs, z);
     let l = learners_in_range(ls, z);
     let m = messages_in_range(t, z);
-    let refusal = sound_no(sized, p, a, l, m);
+    let refusal = sound_no(z, ps.len(), acs.len(), ls.len(), t.len(), p, a, l, m);
     let n = once_if(refusal);
     repeat(z, ps, acs, ls, t, e, n)
 }
@@ -192,17 +203,6 @@ fn events_no(numbers: usize, room: usize, n: u16) -> u8
     if enough { 0 } else { 8 }
 }
 
-// 1 where the sizes and lengths, or the records, are out of range, and then the refusal of the events.
-fn run_no(sized: bool, p: bool, a: bool, l: bool, m: bool, counted: u8) -> u8
-    ensures { λ r. ⌜ r ≡ soundRunOf sized p a l m counted ⌝ }
-{
-    if both(both(both(both(sized, p), a), l), m) {
-        counted
-    } else {
-        1
-    }
-}
-
 // The first `n` events of a schedule's numbers, and their answers into the log; or a refusal and all as it was.
 #[no_mangle]
 pub extern "C" fn machine_run(
@@ -219,13 +219,13 @@ pub extern "C" fn machine_run(
         (now (events .entry)) n (now (log .entry)) r
         (lent (now (ps .exit)) (now (acs .exit)) (now (ls .exit)) (now (t .exit))) (now (log .exit)) ⌝ }
 {
-    let sized = sized(z, ps.len(), acs.len(), ls.len(), t.len());
     let p = proposers_in_range(ps, z);
     let a = acceptors_in_range(acs, z);
     let l = learners_in_range(ls, z);
     let m = messages_in_range(t, z);
+    let sound = sound_no(z, ps.len(), acs.len(), ls.len(), t.len(), p, a, l, m);
     let counted = events_no(events.len(), log.len(), n);
-    let refusal = run_no(sized, p, a, l, m, counted);
+    let refusal = first_no(sound, counted);
     let k = count_if(refusal, n);
     drive(z, ps, acs, ls, t, events, log, k);
     refusal

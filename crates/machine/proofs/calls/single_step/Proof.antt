@@ -71,10 +71,6 @@ use Rattle.model.proofs.Event.Laws as Ev′
 use Rattle.model.specs.declared.Answer.{Answer}
 use Rattle.model.proofs.Answer as An
 use Rattle.model.proofs.Answer.Laws as An′
-use Rattle.machine.proofs.calls.sized as sized
-use Rattle.machine.proofs.calls.sized.Symbol as sized-def
-use Rattle.machine.proofs.calls.sized.Symbol.{name as #sized}
-use Rattle.machine.proofs.calls.sized.Met as sized-thm
 use Rattle.machine.proofs.lent.proposers_in_range as proposers-in-range
 use Rattle.machine.proofs.lent.proposers_in_range.Symbol as proposers-in-range-def
 use Rattle.machine.proofs.lent.proposers_in_range.Symbol.{name as #proposers-in-range}
@@ -129,9 +125,6 @@ valAn = EL.val An.the-type An′.the-laws
 
 -- the contracts that the proof cites
 module _ {M : Type 1} (𝓤 : URA M) (H : Heap 𝓤) (A : Atoms 𝓤) (mem : Memory → SProp 𝓤) (run : Routine → Fun 𝓤) where
-  abbrev Of-sized : Contract 𝓤
-  Of-sized = tripleOf 𝓤 H A sized.signature (sized.spec 𝓤 H A mem run)
-
   abbrev Of-proposers-in-range : Contract 𝓤
   Of-proposers-in-range = tripleOf 𝓤 H A proposers-in-range.signature (proposers-in-range.spec 𝓤 H A mem run)
 
@@ -209,11 +202,11 @@ module _ {M : Type 1} (𝓤 : URA M) (H : Heap 𝓤) (A : Atoms 𝓤) (W : Given
   abbrev m : Bool
   m = all (messageInRange z) t
 
-  abbrev k : ℕ
-  k = soundOf all-sized p a l m
+  abbrev tested : ℕ
+  tested = soundOf all-sized p a l m
 
   abbrev n : ℕ
-  n = turnsOf k 1
+  n = turnsOf tested 1
 
   abbrev r : Left
   r = timesOf z e ps acs ls t n
@@ -250,7 +243,7 @@ module _ {M : Type 1} (𝓤 : URA M) (H : Heap 𝓤) (A : Atoms 𝓤) (W : Given
       nothing ! $ owned ! Ev.the-row (Is Ev.the-row) makesEv e _ ge $ fjoin ! $ move ! (4 ∷ 0 ∷ []) $ fjoin ! $ move ! (3 ∷ 0 ∷ []) $ fjoin ! $ move ! (2 ∷ 0 ∷ []) $ fjoin ! $ move ! (1 ∷ 0 ∷ []) $ fjoin ! $
       owned ! Sz.the-row (Is Sz.the-row) makesSz z _ gz $ fjoin ! $ frame ! $ owned ! An.the-row (Is An.the-row) makesAn (r .answer) _ is $ done !
 
-  module _ (𝓣 : Tables 𝓤 H) (known-sized : Triple 𝓤 (𝓣 .C #sized) (Of-sized 𝓤 H A mem run)) (known-proposers-in-range : Triple 𝓤 (𝓣 .C #proposers-in-range) (Of-proposers-in-range 𝓤 H A mem run)) (known-acceptors-in-range : Triple 𝓤 (𝓣 .C #acceptors-in-range) (Of-acceptors-in-range 𝓤 H A mem run)) (known-learners-in-range : Triple 𝓤 (𝓣 .C #learners-in-range) (Of-learners-in-range 𝓤 H A mem run)) (known-messages-in-range : Triple 𝓤 (𝓣 .C #messages-in-range) (Of-messages-in-range 𝓤 H A mem run)) (known-sound-no : Triple 𝓤 (𝓣 .C #sound-no) (Of-sound-no 𝓤 H A mem run)) (known-once-if : Triple 𝓤 (𝓣 .C #once-if) (Of-once-if 𝓤 H A mem run)) (known-repeat : Triple 𝓤 (𝓣 .C #repeat) (Of-repeat 𝓤 H A mem run)) where
+  module _ (𝓣 : Tables 𝓤 H) (known-proposers-in-range : Triple 𝓤 (𝓣 .C #proposers-in-range) (Of-proposers-in-range 𝓤 H A mem run)) (known-acceptors-in-range : Triple 𝓤 (𝓣 .C #acceptors-in-range) (Of-acceptors-in-range 𝓤 H A mem run)) (known-learners-in-range : Triple 𝓤 (𝓣 .C #learners-in-range) (Of-learners-in-range 𝓤 H A mem run)) (known-messages-in-range : Triple 𝓤 (𝓣 .C #messages-in-range) (Of-messages-in-range 𝓤 H A mem run)) (known-sound-no : Triple 𝓤 (𝓣 .C #sound-no) (Of-sound-no 𝓤 H A mem run)) (known-once-if : Triple 𝓤 (𝓣 .C #once-if) (Of-once-if 𝓤 H A mem run)) (known-repeat : Triple 𝓤 (𝓣 .C #repeat) (Of-repeat 𝓤 H A mem run)) where
     abbrev C : Calls 𝓤 H
     C = 𝓣 .C
 
@@ -260,20 +253,20 @@ module _ {M : Type 1} (𝓤 : URA M) (H : Heap 𝓤) (A : Atoms 𝓤) (W : Given
     fm : FmC 𝓤 H (W .laws) C
     fm = fmOf 𝓤 H (W .laws) 𝓣
 
-    module _ (l₀ l₁ l₂ l₃ l₄ l₅ l₆ l₇ l₈ l₉ l₁₀ l₁₁ l₁₂ l₁₃ l₁₄ l₁₅ l₁₆ l₁₇ l₁₈ l₁₉ l₂₀ l₂₁ l₂₂ l₂₃ l₂₄ l₂₅ l₂₆ l₂₇ l₂₈ l₂₉ l₃₀ l₃₁ l₃₂ l₃₃ : ℕ) where
+    module _ (l₀ l₁ l₂ l₃ l₄ l₅ l₆ l₇ l₈ l₉ l₁₀ l₁₁ l₁₂ l₁₃ l₁₄ l₁₅ l₁₆ l₁₇ l₁₈ l₁₉ l₂₀ l₂₁ l₂₂ l₂₃ l₂₄ l₂₅ l₂₆ l₂₇ l₂₈ l₂₉ l₃₀ l₃₁ l₃₂ : ℕ) where
       abbrev En : Env 𝓤 H
-      En = (An′.mir, l₀) ∷ (Sz′.mir, l₁) ∷ ((sliceTy (tyRef (named 0) mut (pointee (Pr.the-row .written)))), l₂) ∷ ((sliceTy (tyRef (named 1) mut (pointee (Ac.the-row .written)))), l₃) ∷ ((sliceTy (tyRef (named 2) mut (pointee (Le.the-row .written)))), l₄) ∷ ((sliceTy (tyRef (named 3) mut (pointee (Ms.the-row .written)))), l₅) ∷ (Ev′.mir, l₆) ∷ (tyBool, l₇) ∷ (tyBool, l₈) ∷ (tyBool, l₉) ∷ (tyBool, l₁₀) ∷ (tyBool, l₁₁) ∷ (byte, l₁₂) ∷ (byte, l₁₃) ∷ (word, l₁₄) ∷ (word, l₁₅) ∷ (word, l₁₆) ∷ (word, l₁₇) ∷ ((tyRef erased imm (pointee (Pr.the-row .written))), l₁₈) ∷ ((sliceTy (tyRef erased imm (pointee (Pr.the-row .written)))), l₁₉) ∷ ((tyRef erased imm (pointee (Ac.the-row .written))), l₂₀) ∷ ((sliceTy (tyRef erased imm (pointee (Ac.the-row .written)))), l₂₁) ∷ ((tyRef erased imm (pointee (Le.the-row .written))), l₂₂) ∷ ((sliceTy (tyRef erased imm (pointee (Le.the-row .written)))), l₂₃) ∷ ((tyRef erased imm (pointee (Ms.the-row .written))), l₂₄) ∷ ((sliceTy (tyRef erased imm (pointee (Ms.the-row .written)))), l₂₅) ∷ ((tyRef erased mut (pointee (Pr.the-row .written))), l₂₆) ∷ ((sliceTy (tyRef erased mut (pointee (Pr.the-row .written)))), l₂₇) ∷ ((tyRef erased mut (pointee (Ac.the-row .written))), l₂₈) ∷ ((sliceTy (tyRef erased mut (pointee (Ac.the-row .written)))), l₂₉) ∷ ((tyRef erased mut (pointee (Le.the-row .written))), l₃₀) ∷ ((sliceTy (tyRef erased mut (pointee (Le.the-row .written)))), l₃₁) ∷ ((tyRef erased mut (pointee (Ms.the-row .written))), l₃₂) ∷ ((sliceTy (tyRef erased mut (pointee (Ms.the-row .written)))), l₃₃) ∷ []
+      En = (An′.mir, l₀) ∷ (Sz′.mir, l₁) ∷ ((sliceTy (tyRef (named 0) mut (pointee (Pr.the-row .written)))), l₂) ∷ ((sliceTy (tyRef (named 1) mut (pointee (Ac.the-row .written)))), l₃) ∷ ((sliceTy (tyRef (named 2) mut (pointee (Le.the-row .written)))), l₄) ∷ ((sliceTy (tyRef (named 3) mut (pointee (Ms.the-row .written)))), l₅) ∷ (Ev′.mir, l₆) ∷ (tyBool, l₇) ∷ (tyBool, l₈) ∷ (tyBool, l₉) ∷ (tyBool, l₁₀) ∷ (byte, l₁₁) ∷ (byte, l₁₂) ∷ ((tyRef erased imm (pointee (Pr.the-row .written))), l₁₃) ∷ ((sliceTy (tyRef erased imm (pointee (Pr.the-row .written)))), l₁₄) ∷ ((tyRef erased imm (pointee (Ac.the-row .written))), l₁₅) ∷ ((sliceTy (tyRef erased imm (pointee (Ac.the-row .written)))), l₁₆) ∷ ((tyRef erased imm (pointee (Le.the-row .written))), l₁₇) ∷ ((sliceTy (tyRef erased imm (pointee (Le.the-row .written)))), l₁₈) ∷ ((tyRef erased imm (pointee (Ms.the-row .written))), l₁₉) ∷ ((sliceTy (tyRef erased imm (pointee (Ms.the-row .written)))), l₂₀) ∷ (word, l₂₁) ∷ (word, l₂₂) ∷ (word, l₂₃) ∷ (word, l₂₄) ∷ ((tyRef erased mut (pointee (Pr.the-row .written))), l₂₅) ∷ ((sliceTy (tyRef erased mut (pointee (Pr.the-row .written)))), l₂₆) ∷ ((tyRef erased mut (pointee (Ac.the-row .written))), l₂₇) ∷ ((sliceTy (tyRef erased mut (pointee (Ac.the-row .written)))), l₂₈) ∷ ((tyRef erased mut (pointee (Le.the-row .written))), l₂₉) ∷ ((sliceTy (tyRef erased mut (pointee (Le.the-row .written)))), l₃₀) ∷ ((tyRef erased mut (pointee (Ms.the-row .written))), l₃₁) ∷ ((sliceTy (tyRef erased mut (pointee (Ms.the-row .written)))), l₃₂) ∷ []
 
       abbrev Dies : Item 𝓤
-      Dies = ‵ (fdies (sliceTy (tyRef erased mut (pointee (Ms.the-row .written)))) l₃₃) ⊛ ‵ (fdies (tyRef erased mut (pointee (Ms.the-row .written))) l₃₂) ⊛ ‵ (fdies (sliceTy (tyRef erased mut (pointee (Le.the-row .written)))) l₃₁) ⊛ ‵ (fdies (tyRef erased mut (pointee (Le.the-row .written))) l₃₀) ⊛ ‵ (fdies (sliceTy (tyRef erased mut (pointee (Ac.the-row .written)))) l₂₉) ⊛ ‵ (fdies (tyRef erased mut (pointee (Ac.the-row .written))) l₂₈) ⊛ ‵ (fdies (sliceTy (tyRef erased mut (pointee (Pr.the-row .written)))) l₂₇) ⊛ ‵ (fdies (tyRef erased mut (pointee (Pr.the-row .written))) l₂₆) ⊛ ‵ (fdies (sliceTy (tyRef erased imm (pointee (Ms.the-row .written)))) l₂₅) ⊛ ‵ (fdies (tyRef erased imm (pointee (Ms.the-row .written))) l₂₄) ⊛ ‵ (fdies (sliceTy (tyRef erased imm (pointee (Le.the-row .written)))) l₂₃) ⊛ ‵ (fdies (tyRef erased imm (pointee (Le.the-row .written))) l₂₂) ⊛ ‵ (fdies (sliceTy (tyRef erased imm (pointee (Ac.the-row .written)))) l₂₁) ⊛ ‵ (fdies (tyRef erased imm (pointee (Ac.the-row .written))) l₂₀) ⊛ ‵ (fdies (sliceTy (tyRef erased imm (pointee (Pr.the-row .written)))) l₁₉) ⊛ ‵ (fdies (tyRef erased imm (pointee (Pr.the-row .written))) l₁₈) ⊛ ‵ (fdies word l₁₇) ⊛ ‵ (fdies word l₁₆) ⊛ ‵ (fdies word l₁₅) ⊛ ‵ (fdies word l₁₄) ⊛ ‵ (fdies byte l₁₃) ⊛ ‵ (fdies byte l₁₂) ⊛ ‵ (fdies tyBool l₁₁) ⊛ ‵ (fdies tyBool l₁₀) ⊛ ‵ (fdies tyBool l₉) ⊛ ‵ (fdies tyBool l₈) ⊛ ‵ (fdies tyBool l₇) ⊛ ‵ (fdies Ev′.mir l₆) ⊛ ‵ (fdies (sliceTy (tyRef (named 3) mut (pointee (Ms.the-row .written)))) l₅) ⊛ ‵ (fdies (sliceTy (tyRef (named 2) mut (pointee (Le.the-row .written)))) l₄) ⊛ ‵ (fdies (sliceTy (tyRef (named 1) mut (pointee (Ac.the-row .written)))) l₃) ⊛ ‵ (fdies (sliceTy (tyRef (named 0) mut (pointee (Pr.the-row .written)))) l₂) ⊛ ‵ (fdies Sz′.mir l₁) ⊛ ‵ (fdies An′.mir l₀) ⊛ ‵ ftrue
+      Dies = ‵ (fdies (sliceTy (tyRef erased mut (pointee (Ms.the-row .written)))) l₃₂) ⊛ ‵ (fdies (tyRef erased mut (pointee (Ms.the-row .written))) l₃₁) ⊛ ‵ (fdies (sliceTy (tyRef erased mut (pointee (Le.the-row .written)))) l₃₀) ⊛ ‵ (fdies (tyRef erased mut (pointee (Le.the-row .written))) l₂₉) ⊛ ‵ (fdies (sliceTy (tyRef erased mut (pointee (Ac.the-row .written)))) l₂₈) ⊛ ‵ (fdies (tyRef erased mut (pointee (Ac.the-row .written))) l₂₇) ⊛ ‵ (fdies (sliceTy (tyRef erased mut (pointee (Pr.the-row .written)))) l₂₆) ⊛ ‵ (fdies (tyRef erased mut (pointee (Pr.the-row .written))) l₂₅) ⊛ ‵ (fdies word l₂₄) ⊛ ‵ (fdies word l₂₃) ⊛ ‵ (fdies word l₂₂) ⊛ ‵ (fdies word l₂₁) ⊛ ‵ (fdies (sliceTy (tyRef erased imm (pointee (Ms.the-row .written)))) l₂₀) ⊛ ‵ (fdies (tyRef erased imm (pointee (Ms.the-row .written))) l₁₉) ⊛ ‵ (fdies (sliceTy (tyRef erased imm (pointee (Le.the-row .written)))) l₁₈) ⊛ ‵ (fdies (tyRef erased imm (pointee (Le.the-row .written))) l₁₇) ⊛ ‵ (fdies (sliceTy (tyRef erased imm (pointee (Ac.the-row .written)))) l₁₆) ⊛ ‵ (fdies (tyRef erased imm (pointee (Ac.the-row .written))) l₁₅) ⊛ ‵ (fdies (sliceTy (tyRef erased imm (pointee (Pr.the-row .written)))) l₁₄) ⊛ ‵ (fdies (tyRef erased imm (pointee (Pr.the-row .written))) l₁₃) ⊛ ‵ (fdies byte l₁₂) ⊛ ‵ (fdies byte l₁₁) ⊛ ‵ (fdies tyBool l₁₀) ⊛ ‵ (fdies tyBool l₉) ⊛ ‵ (fdies tyBool l₈) ⊛ ‵ (fdies tyBool l₇) ⊛ ‵ (fdies Ev′.mir l₆) ⊛ ‵ (fdies (sliceTy (tyRef (named 3) mut (pointee (Ms.the-row .written)))) l₅) ⊛ ‵ (fdies (sliceTy (tyRef (named 2) mut (pointee (Le.the-row .written)))) l₄) ⊛ ‵ (fdies (sliceTy (tyRef (named 1) mut (pointee (Ac.the-row .written)))) l₃) ⊛ ‵ (fdies (sliceTy (tyRef (named 0) mut (pointee (Pr.the-row .written)))) l₂) ⊛ ‵ (fdies Sz′.mir l₁) ⊛ ‵ (fdies An′.mir l₀) ⊛ ‵ ftrue
 
-      part-5 : (g7 : Is bool all-sized (bool-vals all-sized)) → (g8 : Is bool p (bool-vals p)) → (g9 : Is bool a (bool-vals a)) → (g10 : Is bool l (bool-vals l)) → (g11 : Is bool m (bool-vals m)) → (g12 : Is u8 k (uint-vals w8 k)) → (g13 : Is u8 n (uint-vals w8 n)) → Sq W (‵ (Slice Ms.the-row κ₃ γ₃ b₃ o₃ n₃ t) ∷ ‵ (flft κ₃ q₃) ∷ ‵ (Slice Le.the-row κ₂ γ₂ b₂ o₂ n₂ ls) ∷ ‵ (flft κ₂ q₂) ∷ ‵ (Slice Ac.the-row κ₁ γ₁ b₁ o₁ n₁ acs) ∷ ‵ (flft κ₁ q₁) ∷ ‵ (Slice Pr.the-row κ₀ γ₀ b₀ o₀ n₀ ps) ∷ ‵ (flft κ₀ q₀)
-          ∷ ‵ (froom (sliceTy (tyRef erased mut (pointee (Ms.the-row .written)))) l₃₃ 0) ∷ ‵ (froom (tyRef erased mut (pointee (Ms.the-row .written))) l₃₂ 0) ∷ ‵ (froom (sliceTy (tyRef erased mut (pointee (Le.the-row .written)))) l₃₁ 0) ∷ ‵ (froom (tyRef erased mut (pointee (Le.the-row .written))) l₃₀ 0) ∷ ‵ (froom (sliceTy (tyRef erased mut (pointee (Ac.the-row .written)))) l₂₉ 0) ∷ ‵ (froom (tyRef erased mut (pointee (Ac.the-row .written))) l₂₈ 0) ∷ ‵ (froom (sliceTy (tyRef erased mut (pointee (Pr.the-row .written)))) l₂₇ 0) ∷ ‵ (froom (tyRef erased mut (pointee (Pr.the-row .written))) l₂₆ 0) ∷ ‵ (froom (sliceTy (tyRef erased imm (pointee (Ms.the-row .written)))) l₂₅ 0) ∷ ‵ (froom (tyRef erased imm (pointee (Ms.the-row .written))) l₂₄ 0) ∷ ‵ (froom (sliceTy (tyRef erased imm (pointee (Le.the-row .written)))) l₂₃ 0) ∷ ‵ (froom (tyRef erased imm (pointee (Le.the-row .written))) l₂₂ 0) ∷ ‵ (froom (sliceTy (tyRef erased imm (pointee (Ac.the-row .written)))) l₂₁ 0) ∷ ‵ (froom (tyRef erased imm (pointee (Ac.the-row .written))) l₂₀ 0) ∷ ‵ (froom (sliceTy (tyRef erased imm (pointee (Pr.the-row .written)))) l₁₉ 0) ∷ ‵ (froom (tyRef erased imm (pointee (Pr.the-row .written))) l₁₈ 0) ∷ ‵ (froom word l₁₇ 0) ∷ ‵ (froom word l₁₆ 0) ∷ ‵ (froom word l₁₅ 0) ∷ ‵ (froom word l₁₄ 0) ∷ ‵ (fat fullShare byte l₁₃ 0 (vint w8 n)) ∷ ‵ (fat fullShare byte l₁₂ 0 (vint w8 k)) ∷ ‵ (fat fullShare tyBool l₁₁ 0 (vbool m)) ∷ ‵ (fat fullShare tyBool l₁₀ 0 (vbool l)) ∷ ‵ (fat fullShare tyBool l₉ 0 (vbool a)) ∷ ‵ (fat fullShare tyBool l₈ 0 (vbool p)) ∷ ‵ (fat fullShare tyBool l₇ 0 (vbool all-sized)) ∷ ‵ (fat fullShare Ev′.mir l₆ 0 (valEv e)) ∷ ‵ (fat fullShare (sliceTy (tyRef (named 3) mut (pointee (Ms.the-row .written)))) l₅ 0 s₃) ∷ ‵ (fat fullShare (sliceTy (tyRef (named 2) mut (pointee (Le.the-row .written)))) l₄ 0 s₂) ∷ ‵ (fat fullShare (sliceTy (tyRef (named 1) mut (pointee (Ac.the-row .written)))) l₃ 0 s₁) ∷ ‵ (fat fullShare (sliceTy (tyRef (named 0) mut (pointee (Pr.the-row .written)))) l₂ 0 s₀) ∷ ‵ (fat fullShare Sz′.mir l₁ 0 (valSz z)) ∷ ‵ (froom An′.mir l₀ 0) ∷ Dies ∷ []) (runs C Λ En pieces.t-20 (atRet En Post))
-      part-5 g7 g8 g9 g10 g11 g12 g13 =
-          lends-again ! 39 15 14 refl refl refl refl (tt, tt) refl refl (tt, (tt, (record { fits = room₀ .0 }, tt))) refl $
-          lends-again ! 38 13 12 refl refl refl refl (tt, tt) refl refl (tt, (tt, (record { fits = room₁ .0 }, tt))) refl $
-          lends-again ! 37 11 10 refl refl refl refl (tt, tt) refl refl (tt, (tt, (record { fits = room₂ .0 }, tt))) refl $
-          lends-again ! 36 9 8 refl refl refl refl (tt, tt) refl refl (tt, (tt, (record { fits = room₃ .0 }, tt))) refl $
+      part-4 : (g7 : Is bool p (bool-vals p)) → (g8 : Is bool a (bool-vals a)) → (g9 : Is bool l (bool-vals l)) → (g10 : Is bool m (bool-vals m)) → (g11 : Is u8 tested (uint-vals w8 tested)) → (g12 : Is u8 n (uint-vals w8 n)) → Sq W (‵ (Slice Ms.the-row κ₃ γ₃ b₃ o₃ n₃ t) ∷ ‵ (flft κ₃ q₃) ∷ ‵ (Slice Le.the-row κ₂ γ₂ b₂ o₂ n₂ ls) ∷ ‵ (flft κ₂ q₂) ∷ ‵ (Slice Ac.the-row κ₁ γ₁ b₁ o₁ n₁ acs) ∷ ‵ (flft κ₁ q₁) ∷ ‵ (Slice Pr.the-row κ₀ γ₀ b₀ o₀ n₀ ps) ∷ ‵ (flft κ₀ q₀)
+          ∷ ‵ (froom (sliceTy (tyRef erased mut (pointee (Ms.the-row .written)))) l₃₂ 0) ∷ ‵ (froom (tyRef erased mut (pointee (Ms.the-row .written))) l₃₁ 0) ∷ ‵ (froom (sliceTy (tyRef erased mut (pointee (Le.the-row .written)))) l₃₀ 0) ∷ ‵ (froom (tyRef erased mut (pointee (Le.the-row .written))) l₂₉ 0) ∷ ‵ (froom (sliceTy (tyRef erased mut (pointee (Ac.the-row .written)))) l₂₈ 0) ∷ ‵ (froom (tyRef erased mut (pointee (Ac.the-row .written))) l₂₇ 0) ∷ ‵ (froom (sliceTy (tyRef erased mut (pointee (Pr.the-row .written)))) l₂₆ 0) ∷ ‵ (froom (tyRef erased mut (pointee (Pr.the-row .written))) l₂₅ 0) ∷ ‵ (froom word l₂₄ 0) ∷ ‵ (froom word l₂₃ 0) ∷ ‵ (froom word l₂₂ 0) ∷ ‵ (froom word l₂₁ 0) ∷ ‵ (froom (sliceTy (tyRef erased imm (pointee (Ms.the-row .written)))) l₂₀ 0) ∷ ‵ (froom (tyRef erased imm (pointee (Ms.the-row .written))) l₁₉ 0) ∷ ‵ (froom (sliceTy (tyRef erased imm (pointee (Le.the-row .written)))) l₁₈ 0) ∷ ‵ (froom (tyRef erased imm (pointee (Le.the-row .written))) l₁₇ 0) ∷ ‵ (froom (sliceTy (tyRef erased imm (pointee (Ac.the-row .written)))) l₁₆ 0) ∷ ‵ (froom (tyRef erased imm (pointee (Ac.the-row .written))) l₁₅ 0) ∷ ‵ (froom (sliceTy (tyRef erased imm (pointee (Pr.the-row .written)))) l₁₄ 0) ∷ ‵ (froom (tyRef erased imm (pointee (Pr.the-row .written))) l₁₃ 0) ∷ ‵ (fat fullShare byte l₁₂ 0 (vint w8 n)) ∷ ‵ (fat fullShare byte l₁₁ 0 (vint w8 tested)) ∷ ‵ (fat fullShare tyBool l₁₀ 0 (vbool m)) ∷ ‵ (fat fullShare tyBool l₉ 0 (vbool l)) ∷ ‵ (fat fullShare tyBool l₈ 0 (vbool a)) ∷ ‵ (fat fullShare tyBool l₇ 0 (vbool p)) ∷ ‵ (fat fullShare Ev′.mir l₆ 0 (valEv e)) ∷ ‵ (fat fullShare (sliceTy (tyRef (named 3) mut (pointee (Ms.the-row .written)))) l₅ 0 s₃) ∷ ‵ (fat fullShare (sliceTy (tyRef (named 2) mut (pointee (Le.the-row .written)))) l₄ 0 s₂) ∷ ‵ (fat fullShare (sliceTy (tyRef (named 1) mut (pointee (Ac.the-row .written)))) l₃ 0 s₁) ∷ ‵ (fat fullShare (sliceTy (tyRef (named 0) mut (pointee (Pr.the-row .written)))) l₂ 0 s₀) ∷ ‵ (fat fullShare Sz′.mir l₁ 0 (valSz z)) ∷ ‵ (froom An′.mir l₀ 0) ∷ Dies ∷ []) (runs C Λ En pieces.t-19 (atRet En Post))
+      part-4 g7 g8 g9 g10 g11 g12 =
+          lends-again ! 38 15 14 refl refl refl refl (tt, tt) refl refl (tt, (tt, (record { fits = room₀ .0 }, tt))) refl $
+          lends-again ! 37 13 12 refl refl refl refl (tt, tt) refl refl (tt, (tt, (record { fits = room₁ .0 }, tt))) refl $
+          lends-again ! 36 11 10 refl refl refl refl (tt, tt) refl refl (tt, (tt, (record { fits = room₂ .0 }, tt))) refl $
+          lends-again ! 35 9 8 refl refl refl refl (tt, tt) refl refl (tt, (tt, (record { fits = room₃ .0 }, tt))) refl $
           move ! (6 ∷ 7 ∷ 4 ∷ 5 ∷ 2 ∷ 3 ∷ 0 ∷ 1 ∷ []) $
           calls ! fm (passed Sz.the-row valsSz makesSz z gz
           ∷ lent Pr.the-row κ₀ q₀ γ₀ b₀ o₀ n₀ ps (r .proposers) refl room₀
@@ -281,90 +274,82 @@ module _ {M : Type 1} (𝓤 : URA M) (H : Heap 𝓤) (A : Atoms 𝓤) (W : Given
           ∷ lent Le.the-row κ₂ q₂ γ₂ b₂ o₂ n₂ ls (r .learners) refl room₂
           ∷ lent Ms.the-row κ₃ q₃ γ₃ b₃ o₃ n₃ t (r .slots) refl room₃
           ∷ passed Ev.the-row valsEv makesEv e ge
-          ∷ passed u8 (uint-vals w8) (uint-makes 𝓤 H A W w8) n g13 ∷ [])
-          An.the-row (repeat.clauses 𝓤 H A mem run) known-repeat valAn (EL.tells An.the-type An′.the-laws) (r .answer) (λ w. tt) (λ w. factI 𝓤 _ (emp 𝓤) fitting) (λ w v ws. id⊢ 𝓤 _) (λ w. (locals ! (34 ∷ 8 ∷ 6 ∷ 4 ∷ 2 ∷ 29 ∷ 22 ∷ []) (refl, (refl, (refl, (refl, (refl, (refl, (refl, tt))))))))) (λ g0 e0.
-          land-in ! 41 refl (typedAn (r .answer) g0) $
-          returns ! (look ! 41 refl) $ frees-all ! 8 (full _ _ _ ∷ full _ _ _ ∷ full _ _ _ ∷ full _ _ _ ∷ full _ _ _ ∷ full _ _ _ ∷ full _ _ _ ∷ full _ _ _ ∷ bare _ _ ∷ bare _ _ ∷ bare _ _ ∷ bare _ _ ∷ bare _ _ ∷ bare _ _ ∷ bare _ _ ∷ bare _ _ ∷ bare _ _ ∷ bare _ _ ∷ bare _ _ ∷ bare _ _ ∷ full _ _ _ ∷ full _ _ _ ∷ full _ _ _ ∷ full _ _ _ ∷ full _ _ _ ∷ full _ _ _ ∷ full _ _ _ ∷ full _ _ _ ∷ full _ _ _ ∷ full _ _ _ ∷ full _ _ _ ∷ full _ _ _ ∷ full _ _ _ ∷ full _ _ _ ∷ []) refl refl $
+          ∷ passed u8 (uint-vals w8) (uint-makes 𝓤 H A W w8) n g12 ∷ [])
+          An.the-row (repeat.clauses 𝓤 H A mem run) known-repeat valAn (EL.tells An.the-type An′.the-laws) (r .answer) (λ w. tt) (λ w. factI 𝓤 _ (emp 𝓤) fitting) (λ w v ws. id⊢ 𝓤 _) (λ w. (locals ! (33 ∷ 8 ∷ 6 ∷ 4 ∷ 2 ∷ 28 ∷ 22 ∷ []) (refl, (refl, (refl, (refl, (refl, (refl, (refl, tt))))))))) (λ g0 e0.
+          land-in ! 40 refl (typedAn (r .answer) g0) $
+          returns ! (look ! 40 refl) $ frees-all ! 8 (full _ _ _ ∷ full _ _ _ ∷ full _ _ _ ∷ full _ _ _ ∷ full _ _ _ ∷ full _ _ _ ∷ full _ _ _ ∷ full _ _ _ ∷ bare _ _ ∷ bare _ _ ∷ bare _ _ ∷ bare _ _ ∷ bare _ _ ∷ bare _ _ ∷ bare _ _ ∷ bare _ _ ∷ bare _ _ ∷ bare _ _ ∷ bare _ _ ∷ bare _ _ ∷ full _ _ _ ∷ full _ _ _ ∷ full _ _ _ ∷ full _ _ _ ∷ full _ _ _ ∷ full _ _ _ ∷ full _ _ _ ∷ full _ _ _ ∷ full _ _ _ ∷ full _ _ _ ∷ full _ _ _ ∷ full _ _ _ ∷ full _ _ _ ∷ []) refl refl $
           keep ! (0 ∷ 1 ∷ 2 ∷ 3 ∷ 4 ∷ 5 ∷ 6 ∷ 7 ∷ []) $ by ! (exits g0 (e0 .0) (e0 .1 .0) (e0 .1 .1 .0) (e0 .1 .1 .1 .0)))
 
-      part-4 : (g7 : Is bool all-sized (bool-vals all-sized)) → (g8 : Is bool p (bool-vals p)) → (g9 : Is bool a (bool-vals a)) → (g10 : Is bool l (bool-vals l)) → (g11 : Is bool m (bool-vals m)) → Sq W (‵ (Slice Ms.the-row κ₃ γ₃ b₃ o₃ n₃ t) ∷ ‵ (flft κ₃ q₃) ∷ ‵ (Slice Le.the-row κ₂ γ₂ b₂ o₂ n₂ ls) ∷ ‵ (flft κ₂ q₂) ∷ ‵ (Slice Ac.the-row κ₁ γ₁ b₁ o₁ n₁ acs) ∷ ‵ (flft κ₁ q₁) ∷ ‵ (Slice Pr.the-row κ₀ γ₀ b₀ o₀ n₀ ps) ∷ ‵ (flft κ₀ q₀)
-          ∷ ‵ (froom (sliceTy (tyRef erased mut (pointee (Ms.the-row .written)))) l₃₃ 0) ∷ ‵ (froom (tyRef erased mut (pointee (Ms.the-row .written))) l₃₂ 0) ∷ ‵ (froom (sliceTy (tyRef erased mut (pointee (Le.the-row .written)))) l₃₁ 0) ∷ ‵ (froom (tyRef erased mut (pointee (Le.the-row .written))) l₃₀ 0) ∷ ‵ (froom (sliceTy (tyRef erased mut (pointee (Ac.the-row .written)))) l₂₉ 0) ∷ ‵ (froom (tyRef erased mut (pointee (Ac.the-row .written))) l₂₈ 0) ∷ ‵ (froom (sliceTy (tyRef erased mut (pointee (Pr.the-row .written)))) l₂₇ 0) ∷ ‵ (froom (tyRef erased mut (pointee (Pr.the-row .written))) l₂₆ 0) ∷ ‵ (froom (sliceTy (tyRef erased imm (pointee (Ms.the-row .written)))) l₂₅ 0) ∷ ‵ (froom (tyRef erased imm (pointee (Ms.the-row .written))) l₂₄ 0) ∷ ‵ (froom (sliceTy (tyRef erased imm (pointee (Le.the-row .written)))) l₂₃ 0) ∷ ‵ (froom (tyRef erased imm (pointee (Le.the-row .written))) l₂₂ 0) ∷ ‵ (froom (sliceTy (tyRef erased imm (pointee (Ac.the-row .written)))) l₂₁ 0) ∷ ‵ (froom (tyRef erased imm (pointee (Ac.the-row .written))) l₂₀ 0) ∷ ‵ (froom (sliceTy (tyRef erased imm (pointee (Pr.the-row .written)))) l₁₉ 0) ∷ ‵ (froom (tyRef erased imm (pointee (Pr.the-row .written))) l₁₈ 0) ∷ ‵ (froom word l₁₇ 0) ∷ ‵ (froom word l₁₆ 0) ∷ ‵ (froom word l₁₅ 0) ∷ ‵ (froom word l₁₄ 0) ∷ ‵ (froom byte l₁₃ 0) ∷ ‵ (froom byte l₁₂ 0) ∷ ‵ (fat fullShare tyBool l₁₁ 0 (vbool m)) ∷ ‵ (fat fullShare tyBool l₁₀ 0 (vbool l)) ∷ ‵ (fat fullShare tyBool l₉ 0 (vbool a)) ∷ ‵ (fat fullShare tyBool l₈ 0 (vbool p)) ∷ ‵ (fat fullShare tyBool l₇ 0 (vbool all-sized)) ∷ ‵ (fat fullShare Ev′.mir l₆ 0 (valEv e)) ∷ ‵ (fat fullShare (sliceTy (tyRef (named 3) mut (pointee (Ms.the-row .written)))) l₅ 0 s₃) ∷ ‵ (fat fullShare (sliceTy (tyRef (named 2) mut (pointee (Le.the-row .written)))) l₄ 0 s₂) ∷ ‵ (fat fullShare (sliceTy (tyRef (named 1) mut (pointee (Ac.the-row .written)))) l₃ 0 s₁) ∷ ‵ (fat fullShare (sliceTy (tyRef (named 0) mut (pointee (Pr.the-row .written)))) l₂ 0 s₀) ∷ ‵ (fat fullShare Sz′.mir l₁ 0 (valSz z)) ∷ ‵ (froom An′.mir l₀ 0) ∷ Dies ∷ []) (runs C Λ En pieces.t-18 (atRet En Post))
-      part-4 g7 g8 g9 g10 g11 =
-          calls-value ! fm (sound-no.signature .params) u8 (sound-no.ended .kept) (sound-no.clauses 𝓤 H A mem run) known-sound-no (bool-vals, (bool-vals, (bool-vals, (bool-vals, (bool-vals, tt))))) (bool-makes 𝓤 H A W, (bool-makes 𝓤 H A W, (bool-makes 𝓤 H A W, (bool-makes 𝓤 H A W, (bool-makes 𝓤 H A W, tt))))) (vint w8) (uint-tells w8)
-          (all-sized, (p, (a, (l, (m, tt))))) (g7, (g8, (g9, (g10, (g11, tt))))) tt (id⊢ 𝓤 (emp 𝓤)) k (λ r e′. id⊢ 𝓤 (fact 𝓤 (r ≡ k))) (locals ! (35 ∷ 34 ∷ 33 ∷ 32 ∷ 31 ∷ []) (refl, (refl, (refl, (refl, (refl, tt)))))) (λ g12.
-          land-in ! 29 refl (tt, record { fits = g12 .1 }) $
+      part-3 : (g7 : Is bool p (bool-vals p)) → (g8 : Is bool a (bool-vals a)) → (g9 : Is bool l (bool-vals l)) → (g10 : Is bool m (bool-vals m)) → Sq W (‵ (Slice Ms.the-row κ₃ γ₃ b₃ o₃ n₃ t) ∷ ‵ (flft κ₃ q₃) ∷ ‵ (Slice Le.the-row κ₂ γ₂ b₂ o₂ n₂ ls) ∷ ‵ (flft κ₂ q₂) ∷ ‵ (Slice Ac.the-row κ₁ γ₁ b₁ o₁ n₁ acs) ∷ ‵ (flft κ₁ q₁) ∷ ‵ (Slice Pr.the-row κ₀ γ₀ b₀ o₀ n₀ ps) ∷ ‵ (flft κ₀ q₀)
+          ∷ ‵ (froom (sliceTy (tyRef erased mut (pointee (Ms.the-row .written)))) l₃₂ 0) ∷ ‵ (froom (tyRef erased mut (pointee (Ms.the-row .written))) l₃₁ 0) ∷ ‵ (froom (sliceTy (tyRef erased mut (pointee (Le.the-row .written)))) l₃₀ 0) ∷ ‵ (froom (tyRef erased mut (pointee (Le.the-row .written))) l₂₉ 0) ∷ ‵ (froom (sliceTy (tyRef erased mut (pointee (Ac.the-row .written)))) l₂₈ 0) ∷ ‵ (froom (tyRef erased mut (pointee (Ac.the-row .written))) l₂₇ 0) ∷ ‵ (froom (sliceTy (tyRef erased mut (pointee (Pr.the-row .written)))) l₂₆ 0) ∷ ‵ (froom (tyRef erased mut (pointee (Pr.the-row .written))) l₂₅ 0) ∷ ‵ (froom word l₂₄ 0) ∷ ‵ (froom word l₂₃ 0) ∷ ‵ (froom word l₂₂ 0) ∷ ‵ (froom word l₂₁ 0) ∷ ‵ (froom (sliceTy (tyRef erased imm (pointee (Ms.the-row .written)))) l₂₀ 0) ∷ ‵ (froom (tyRef erased imm (pointee (Ms.the-row .written))) l₁₉ 0) ∷ ‵ (froom (sliceTy (tyRef erased imm (pointee (Le.the-row .written)))) l₁₈ 0) ∷ ‵ (froom (tyRef erased imm (pointee (Le.the-row .written))) l₁₇ 0) ∷ ‵ (froom (sliceTy (tyRef erased imm (pointee (Ac.the-row .written)))) l₁₆ 0) ∷ ‵ (froom (tyRef erased imm (pointee (Ac.the-row .written))) l₁₅ 0) ∷ ‵ (froom (sliceTy (tyRef erased imm (pointee (Pr.the-row .written)))) l₁₄ 0) ∷ ‵ (froom (tyRef erased imm (pointee (Pr.the-row .written))) l₁₃ 0) ∷ ‵ (froom byte l₁₂ 0) ∷ ‵ (froom byte l₁₁ 0) ∷ ‵ (fat fullShare tyBool l₁₀ 0 (vbool m)) ∷ ‵ (fat fullShare tyBool l₉ 0 (vbool l)) ∷ ‵ (fat fullShare tyBool l₈ 0 (vbool a)) ∷ ‵ (fat fullShare tyBool l₇ 0 (vbool p)) ∷ ‵ (fat fullShare Ev′.mir l₆ 0 (valEv e)) ∷ ‵ (fat fullShare (sliceTy (tyRef (named 3) mut (pointee (Ms.the-row .written)))) l₅ 0 s₃) ∷ ‵ (fat fullShare (sliceTy (tyRef (named 2) mut (pointee (Le.the-row .written)))) l₄ 0 s₂) ∷ ‵ (fat fullShare (sliceTy (tyRef (named 1) mut (pointee (Ac.the-row .written)))) l₃ 0 s₁) ∷ ‵ (fat fullShare (sliceTy (tyRef (named 0) mut (pointee (Pr.the-row .written)))) l₂ 0 s₀) ∷ ‵ (fat fullShare Sz′.mir l₁ 0 (valSz z)) ∷ ‵ (froom An′.mir l₀ 0) ∷ Dies ∷ []) (runs C Λ En pieces.t-13 (atRet En Post))
+      part-3 g7 g8 g9 g10 =
+          assigns ! (of-opd ! (reads ! (from ! (fld ! refl (stop !))) (look-in ! 38 (sub ! 1 refl (whole !))))) (from ! (stop !)) (init ! 19 refl (tt, record { fits = room₀ .0 })) $
+          assigns ! (of-opd ! (reads ! (from ! (fld ! refl (stop !))) (look-in ! 37 (sub ! 1 refl (whole !))))) (from ! (stop !)) (init ! 18 refl (tt, record { fits = room₁ .0 })) $
+          assigns ! (of-opd ! (reads ! (from ! (fld ! refl (stop !))) (look-in ! 36 (sub ! 1 refl (whole !))))) (from ! (stop !)) (init ! 17 refl (tt, record { fits = room₂ .0 })) $
+          assigns ! (of-opd ! (reads ! (from ! (fld ! refl (stop !))) (look-in ! 35 (sub ! 1 refl (whole !))))) (from ! (stop !)) (init ! 16 refl (tt, record { fits = room₃ .0 })) $
+          calls-value ! fm (sound-no.signature .params) u8 (sound-no.ended .kept) (sound-no.clauses 𝓤 H A mem run) known-sound-no (valsSz, (uint-vals w64, (uint-vals w64, (uint-vals w64, (uint-vals w64, (bool-vals, (bool-vals, (bool-vals, (bool-vals, tt))))))))) (makesSz, (uint-makes 𝓤 H A W w64, (uint-makes 𝓤 H A W w64, (uint-makes 𝓤 H A W w64, (uint-makes 𝓤 H A W w64, (bool-makes 𝓤 H A W, (bool-makes 𝓤 H A W, (bool-makes 𝓤 H A W, (bool-makes 𝓤 H A W, tt))))))))) (vint w8) (uint-tells w8)
+          (z, (n₀, (n₁, (n₂, (n₃, (p, (a, (l, (m, tt))))))))) (gz, ((refl, room₀ .0), ((refl, room₁ .0), ((refl, room₂ .0), ((refl, room₃ .0), (g7, (g8, (g9, (g10, tt))))))))) tt (id⊢ 𝓤 (emp 𝓤)) tested (λ r e′. id⊢ 𝓤 (fact 𝓤 (r ≡ tested))) (locals ! (40 ∷ 20 ∷ 19 ∷ 18 ∷ 17 ∷ 34 ∷ 33 ∷ 32 ∷ 31 ∷ []) (refl, (refl, (refl, (refl, (refl, (refl, (refl, (refl, (refl, tt)))))))))) (λ g11.
+          land-in ! 29 refl (tt, record { fits = g11 .1 }) $
           calls-value ! fm (once-if.signature .params) u8 (once-if.ended .kept) (once-if.clauses 𝓤 H A mem run) known-once-if (uint-vals w8, tt) (uint-makes 𝓤 H A W w8, tt) (vint w8) (uint-tells w8)
-          (k, tt) (g12, tt) tt (id⊢ 𝓤 (emp 𝓤)) n (λ r e′. id⊢ 𝓤 (fact 𝓤 (r ≡ n))) (locals ! (30 ∷ []) (refl, tt)) (λ g13.
-          land-in ! 28 refl (tt, record { fits = g13 .1 }) $
-          part-5 g7 g8 g9 g10 g11 g12 g13))
-
-      part-3 : (g7 : Is bool all-sized (bool-vals all-sized)) → (g8 : Is bool p (bool-vals p)) → (g9 : Is bool a (bool-vals a)) → Sq W (‵ (Slice Ac.the-row κ₁ γ₁ b₁ o₁ n₁ acs) ∷ ‵ (flft κ₁ q₁) ∷ ‵ (Slice Pr.the-row κ₀ γ₀ b₀ o₀ n₀ ps) ∷ ‵ (flft κ₀ q₀) ∷ ‵ (Slice Le.the-row κ₂ γ₂ b₂ o₂ n₂ ls) ∷ ‵ (flft κ₂ q₂) ∷ ‵ (Slice Ms.the-row κ₃ γ₃ b₃ o₃ n₃ t) ∷ ‵ (flft κ₃ q₃)
-          ∷ ‵ (froom (sliceTy (tyRef erased mut (pointee (Ms.the-row .written)))) l₃₃ 0) ∷ ‵ (froom (tyRef erased mut (pointee (Ms.the-row .written))) l₃₂ 0) ∷ ‵ (froom (sliceTy (tyRef erased mut (pointee (Le.the-row .written)))) l₃₁ 0) ∷ ‵ (froom (tyRef erased mut (pointee (Le.the-row .written))) l₃₀ 0) ∷ ‵ (froom (sliceTy (tyRef erased mut (pointee (Ac.the-row .written)))) l₂₉ 0) ∷ ‵ (froom (tyRef erased mut (pointee (Ac.the-row .written))) l₂₈ 0) ∷ ‵ (froom (sliceTy (tyRef erased mut (pointee (Pr.the-row .written)))) l₂₇ 0) ∷ ‵ (froom (tyRef erased mut (pointee (Pr.the-row .written))) l₂₆ 0) ∷ ‵ (froom (sliceTy (tyRef erased imm (pointee (Ms.the-row .written)))) l₂₅ 0) ∷ ‵ (froom (tyRef erased imm (pointee (Ms.the-row .written))) l₂₄ 0) ∷ ‵ (froom (sliceTy (tyRef erased imm (pointee (Le.the-row .written)))) l₂₃ 0) ∷ ‵ (froom (tyRef erased imm (pointee (Le.the-row .written))) l₂₂ 0) ∷ ‵ (froom (sliceTy (tyRef erased imm (pointee (Ac.the-row .written)))) l₂₁ 0) ∷ ‵ (froom (tyRef erased imm (pointee (Ac.the-row .written))) l₂₀ 0) ∷ ‵ (froom (sliceTy (tyRef erased imm (pointee (Pr.the-row .written)))) l₁₉ 0) ∷ ‵ (froom (tyRef erased imm (pointee (Pr.the-row .written))) l₁₈ 0) ∷ ‵ (froom word l₁₇ 0) ∷ ‵ (froom word l₁₆ 0) ∷ ‵ (froom word l₁₅ 0) ∷ ‵ (froom word l₁₄ 0) ∷ ‵ (froom byte l₁₃ 0) ∷ ‵ (froom byte l₁₂ 0) ∷ ‵ (froom tyBool l₁₁ 0) ∷ ‵ (froom tyBool l₁₀ 0) ∷ ‵ (fat fullShare tyBool l₉ 0 (vbool a)) ∷ ‵ (fat fullShare tyBool l₈ 0 (vbool p)) ∷ ‵ (fat fullShare tyBool l₇ 0 (vbool all-sized)) ∷ ‵ (fat fullShare Ev′.mir l₆ 0 (valEv e)) ∷ ‵ (fat fullShare (sliceTy (tyRef (named 3) mut (pointee (Ms.the-row .written)))) l₅ 0 s₃) ∷ ‵ (fat fullShare (sliceTy (tyRef (named 2) mut (pointee (Le.the-row .written)))) l₄ 0 s₂) ∷ ‵ (fat fullShare (sliceTy (tyRef (named 1) mut (pointee (Ac.the-row .written)))) l₃ 0 s₁) ∷ ‵ (fat fullShare (sliceTy (tyRef (named 0) mut (pointee (Pr.the-row .written)))) l₂ 0 s₀) ∷ ‵ (fat fullShare Sz′.mir l₁ 0 (valSz z)) ∷ ‵ (froom An′.mir l₀ 0) ∷ Dies ∷ []) (runs C Λ En pieces.t-12 (atRet En Post))
-      part-3 g7 g8 g9 =
-          lends-again ! 37 19 18 refl refl refl refl (tt, tt) refl refl (tt, (tt, (record { fits = room₂ .0 }, tt))) refl $
-          move ! (4 ∷ 5 ∷ []) $
-          calls-shared ! fm Le.the-row (plain (λ _. Sz.the-row) ∷ []) bool (yes, tt) vbool bool-tells b₂ o₂ n₂ ls refl (λ ν. (valsSz, tt)) (λ ν. (makesSz, tt)) (λ ν. (z, tt)) (λ ν. (gz, tt))
-          (learners-in-range.clauses 𝓤 H A mem run) known-learners-in-range l (λ ν δ. tt) (λ ν δ. id⊢ 𝓤 (emp 𝓤)) (λ ν δ r e′. id⊢ 𝓤 (fact 𝓤 (r ≡ l))) (λ ν δ. (locals ! (21 ∷ 43 ∷ []) (refl, (refl, tt)))) (λ g10.
-          land-in ! 31 refl (tt, tt) $
-          lends-again ! 36 17 16 refl refl refl refl (tt, tt) refl refl (tt, (tt, (record { fits = room₃ .0 }, tt))) refl $
-          move ! (6 ∷ 7 ∷ []) $
-          calls-shared ! fm Ms.the-row (plain (λ _. Sz.the-row) ∷ []) bool (yes, tt) vbool bool-tells b₃ o₃ n₃ t refl (λ ν. (valsSz, tt)) (λ ν. (makesSz, tt)) (λ ν. (z, tt)) (λ ν. (gz, tt))
-          (messages-in-range.clauses 𝓤 H A mem run) known-messages-in-range m (λ ν δ. tt) (λ ν δ. id⊢ 𝓤 (emp 𝓤)) (λ ν δ r e′. id⊢ 𝓤 (fact 𝓤 (r ≡ m))) (λ ν δ. (locals ! (19 ∷ 43 ∷ []) (refl, (refl, tt)))) (λ g11.
-          land-in ! 30 refl (tt, tt) $
+          (tested, tt) (g11, tt) tt (id⊢ 𝓤 (emp 𝓤)) n (λ r e′. id⊢ 𝓤 (fact 𝓤 (r ≡ n))) (locals ! (30 ∷ []) (refl, tt)) (λ g12.
+          land-in ! 28 refl (tt, record { fits = g12 .1 }) $
           forget ! 19 refl $
           forget ! 18 refl $
           forget ! 17 refl $
           forget ! 16 refl $
-          part-4 g7 g8 g9 g10 g11))
+          part-4 g7 g8 g9 g10 g11 g12))
 
-      part-2 : (g7 : Is bool all-sized (bool-vals all-sized)) → Sq W (‵ (Slice Pr.the-row κ₀ γ₀ b₀ o₀ n₀ ps) ∷ ‵ (flft κ₀ q₀) ∷ ‵ (Slice Ac.the-row κ₁ γ₁ b₁ o₁ n₁ acs) ∷ ‵ (flft κ₁ q₁) ∷ ‵ (Slice Le.the-row κ₂ γ₂ b₂ o₂ n₂ ls) ∷ ‵ (flft κ₂ q₂) ∷ ‵ (Slice Ms.the-row κ₃ γ₃ b₃ o₃ n₃ t) ∷ ‵ (flft κ₃ q₃)
-          ∷ ‵ (froom (sliceTy (tyRef erased mut (pointee (Ms.the-row .written)))) l₃₃ 0) ∷ ‵ (froom (tyRef erased mut (pointee (Ms.the-row .written))) l₃₂ 0) ∷ ‵ (froom (sliceTy (tyRef erased mut (pointee (Le.the-row .written)))) l₃₁ 0) ∷ ‵ (froom (tyRef erased mut (pointee (Le.the-row .written))) l₃₀ 0) ∷ ‵ (froom (sliceTy (tyRef erased mut (pointee (Ac.the-row .written)))) l₂₉ 0) ∷ ‵ (froom (tyRef erased mut (pointee (Ac.the-row .written))) l₂₈ 0) ∷ ‵ (froom (sliceTy (tyRef erased mut (pointee (Pr.the-row .written)))) l₂₇ 0) ∷ ‵ (froom (tyRef erased mut (pointee (Pr.the-row .written))) l₂₆ 0) ∷ ‵ (froom (sliceTy (tyRef erased imm (pointee (Ms.the-row .written)))) l₂₅ 0) ∷ ‵ (froom (tyRef erased imm (pointee (Ms.the-row .written))) l₂₄ 0) ∷ ‵ (froom (sliceTy (tyRef erased imm (pointee (Le.the-row .written)))) l₂₃ 0) ∷ ‵ (froom (tyRef erased imm (pointee (Le.the-row .written))) l₂₂ 0) ∷ ‵ (froom (sliceTy (tyRef erased imm (pointee (Ac.the-row .written)))) l₂₁ 0) ∷ ‵ (froom (tyRef erased imm (pointee (Ac.the-row .written))) l₂₀ 0) ∷ ‵ (froom (sliceTy (tyRef erased imm (pointee (Pr.the-row .written)))) l₁₉ 0) ∷ ‵ (froom (tyRef erased imm (pointee (Pr.the-row .written))) l₁₈ 0) ∷ ‵ (froom word l₁₇ 0) ∷ ‵ (froom word l₁₆ 0) ∷ ‵ (froom word l₁₅ 0) ∷ ‵ (froom word l₁₄ 0) ∷ ‵ (froom byte l₁₃ 0) ∷ ‵ (froom byte l₁₂ 0) ∷ ‵ (froom tyBool l₁₁ 0) ∷ ‵ (froom tyBool l₁₀ 0) ∷ ‵ (froom tyBool l₉ 0) ∷ ‵ (froom tyBool l₈ 0) ∷ ‵ (fat fullShare tyBool l₇ 0 (vbool all-sized)) ∷ ‵ (fat fullShare Ev′.mir l₆ 0 (valEv e)) ∷ ‵ (fat fullShare (sliceTy (tyRef (named 3) mut (pointee (Ms.the-row .written)))) l₅ 0 s₃) ∷ ‵ (fat fullShare (sliceTy (tyRef (named 2) mut (pointee (Le.the-row .written)))) l₄ 0 s₂) ∷ ‵ (fat fullShare (sliceTy (tyRef (named 1) mut (pointee (Ac.the-row .written)))) l₃ 0 s₁) ∷ ‵ (fat fullShare (sliceTy (tyRef (named 0) mut (pointee (Pr.the-row .written)))) l₂ 0 s₀) ∷ ‵ (fat fullShare Sz′.mir l₁ 0 (valSz z)) ∷ ‵ (froom An′.mir l₀ 0) ∷ Dies ∷ []) (runs C Λ En pieces.t-6 (atRet En Post))
-      part-2 g7 =
-          lends-again ! 39 23 22 refl refl refl refl (tt, tt) refl refl (tt, (tt, (record { fits = room₀ .0 }, tt))) refl $
-          calls-shared ! fm Pr.the-row (plain (λ _. Sz.the-row) ∷ []) bool (yes, tt) vbool bool-tells b₀ o₀ n₀ ps refl (λ ν. (valsSz, tt)) (λ ν. (makesSz, tt)) (λ ν. (z, tt)) (λ ν. (gz, tt))
-          (proposers-in-range.clauses 𝓤 H A mem run) known-proposers-in-range p (λ ν δ. tt) (λ ν δ. id⊢ 𝓤 (emp 𝓤)) (λ ν δ r e′. id⊢ 𝓤 (fact 𝓤 (r ≡ p))) (λ ν δ. (locals ! (25 ∷ 43 ∷ []) (refl, (refl, tt)))) (λ g8.
-          land-in ! 33 refl (tt, tt) $
-          lends-again ! 38 21 20 refl refl refl refl (tt, tt) refl refl (tt, (tt, (record { fits = room₁ .0 }, tt))) refl $
-          move ! (2 ∷ 3 ∷ []) $
-          calls-shared ! fm Ac.the-row (plain (λ _. Sz.the-row) ∷ []) bool (yes, tt) vbool bool-tells b₁ o₁ n₁ acs refl (λ ν. (valsSz, tt)) (λ ν. (makesSz, tt)) (λ ν. (z, tt)) (λ ν. (gz, tt))
-          (acceptors-in-range.clauses 𝓤 H A mem run) known-acceptors-in-range a (λ ν δ. tt) (λ ν δ. id⊢ 𝓤 (emp 𝓤)) (λ ν δ r e′. id⊢ 𝓤 (fact 𝓤 (r ≡ a))) (λ ν δ. (locals ! (23 ∷ 43 ∷ []) (refl, (refl, tt)))) (λ g9.
-          land-in ! 32 refl (tt, tt) $
+      part-2 : (g7 : Is bool p (bool-vals p)) → (g8 : Is bool a (bool-vals a)) → Sq W (‵ (Slice Ac.the-row κ₁ γ₁ b₁ o₁ n₁ acs) ∷ ‵ (flft κ₁ q₁) ∷ ‵ (Slice Pr.the-row κ₀ γ₀ b₀ o₀ n₀ ps) ∷ ‵ (flft κ₀ q₀) ∷ ‵ (Slice Le.the-row κ₂ γ₂ b₂ o₂ n₂ ls) ∷ ‵ (flft κ₂ q₂) ∷ ‵ (Slice Ms.the-row κ₃ γ₃ b₃ o₃ n₃ t) ∷ ‵ (flft κ₃ q₃)
+          ∷ ‵ (froom (sliceTy (tyRef erased mut (pointee (Ms.the-row .written)))) l₃₂ 0) ∷ ‵ (froom (tyRef erased mut (pointee (Ms.the-row .written))) l₃₁ 0) ∷ ‵ (froom (sliceTy (tyRef erased mut (pointee (Le.the-row .written)))) l₃₀ 0) ∷ ‵ (froom (tyRef erased mut (pointee (Le.the-row .written))) l₂₉ 0) ∷ ‵ (froom (sliceTy (tyRef erased mut (pointee (Ac.the-row .written)))) l₂₈ 0) ∷ ‵ (froom (tyRef erased mut (pointee (Ac.the-row .written))) l₂₇ 0) ∷ ‵ (froom (sliceTy (tyRef erased mut (pointee (Pr.the-row .written)))) l₂₆ 0) ∷ ‵ (froom (tyRef erased mut (pointee (Pr.the-row .written))) l₂₅ 0) ∷ ‵ (froom word l₂₄ 0) ∷ ‵ (froom word l₂₃ 0) ∷ ‵ (froom word l₂₂ 0) ∷ ‵ (froom word l₂₁ 0) ∷ ‵ (froom (sliceTy (tyRef erased imm (pointee (Ms.the-row .written)))) l₂₀ 0) ∷ ‵ (froom (tyRef erased imm (pointee (Ms.the-row .written))) l₁₉ 0) ∷ ‵ (froom (sliceTy (tyRef erased imm (pointee (Le.the-row .written)))) l₁₈ 0) ∷ ‵ (froom (tyRef erased imm (pointee (Le.the-row .written))) l₁₇ 0) ∷ ‵ (froom (sliceTy (tyRef erased imm (pointee (Ac.the-row .written)))) l₁₆ 0) ∷ ‵ (froom (tyRef erased imm (pointee (Ac.the-row .written))) l₁₅ 0) ∷ ‵ (froom (sliceTy (tyRef erased imm (pointee (Pr.the-row .written)))) l₁₄ 0) ∷ ‵ (froom (tyRef erased imm (pointee (Pr.the-row .written))) l₁₃ 0) ∷ ‵ (froom byte l₁₂ 0) ∷ ‵ (froom byte l₁₁ 0) ∷ ‵ (froom tyBool l₁₀ 0) ∷ ‵ (froom tyBool l₉ 0) ∷ ‵ (fat fullShare tyBool l₈ 0 (vbool a)) ∷ ‵ (fat fullShare tyBool l₇ 0 (vbool p)) ∷ ‵ (fat fullShare Ev′.mir l₆ 0 (valEv e)) ∷ ‵ (fat fullShare (sliceTy (tyRef (named 3) mut (pointee (Ms.the-row .written)))) l₅ 0 s₃) ∷ ‵ (fat fullShare (sliceTy (tyRef (named 2) mut (pointee (Le.the-row .written)))) l₄ 0 s₂) ∷ ‵ (fat fullShare (sliceTy (tyRef (named 1) mut (pointee (Ac.the-row .written)))) l₃ 0 s₁) ∷ ‵ (fat fullShare (sliceTy (tyRef (named 0) mut (pointee (Pr.the-row .written)))) l₂ 0 s₀) ∷ ‵ (fat fullShare Sz′.mir l₁ 0 (valSz z)) ∷ ‵ (froom An′.mir l₀ 0) ∷ Dies ∷ []) (runs C Λ En pieces.t-7 (atRet En Post))
+      part-2 g7 g8 =
+          lends-again ! 36 23 22 refl refl refl refl (tt, tt) refl refl (tt, (tt, (record { fits = room₂ .0 }, tt))) refl $
+          move ! (4 ∷ 5 ∷ []) $
+          calls-shared ! fm Le.the-row (plain (λ _. Sz.the-row) ∷ []) bool (yes, tt) vbool bool-tells b₂ o₂ n₂ ls refl (λ ν. (valsSz, tt)) (λ ν. (makesSz, tt)) (λ ν. (z, tt)) (λ ν. (gz, tt))
+          (learners-in-range.clauses 𝓤 H A mem run) known-learners-in-range l (λ ν δ. tt) (λ ν δ. id⊢ 𝓤 (emp 𝓤)) (λ ν δ r e′. id⊢ 𝓤 (fact 𝓤 (r ≡ l))) (λ ν δ. (locals ! (25 ∷ 42 ∷ []) (refl, (refl, tt)))) (λ g9.
+          land-in ! 31 refl (tt, tt) $
+          lends-again ! 35 21 20 refl refl refl refl (tt, tt) refl refl (tt, (tt, (record { fits = room₃ .0 }, tt))) refl $
+          move ! (6 ∷ 7 ∷ []) $
+          calls-shared ! fm Ms.the-row (plain (λ _. Sz.the-row) ∷ []) bool (yes, tt) vbool bool-tells b₃ o₃ n₃ t refl (λ ν. (valsSz, tt)) (λ ν. (makesSz, tt)) (λ ν. (z, tt)) (λ ν. (gz, tt))
+          (messages-in-range.clauses 𝓤 H A mem run) known-messages-in-range m (λ ν δ. tt) (λ ν δ. id⊢ 𝓤 (emp 𝓤)) (λ ν δ r e′. id⊢ 𝓤 (fact 𝓤 (r ≡ m))) (λ ν δ. (locals ! (23 ∷ 42 ∷ []) (refl, (refl, tt)))) (λ g10.
+          land-in ! 30 refl (tt, tt) $
           forget ! 23 refl $
           forget ! 22 refl $
           forget ! 21 refl $
           forget ! 20 refl $
-          part-3 g7 g8 g9))
+          part-3 g7 g8 g9 g10))
 
       part-1 : Sq W (‵ (Slice Pr.the-row κ₀ γ₀ b₀ o₀ n₀ ps) ∷ ‵ (flft κ₀ q₀) ∷ ‵ (Slice Ac.the-row κ₁ γ₁ b₁ o₁ n₁ acs) ∷ ‵ (flft κ₁ q₁) ∷ ‵ (Slice Le.the-row κ₂ γ₂ b₂ o₂ n₂ ls) ∷ ‵ (flft κ₂ q₂) ∷ ‵ (Slice Ms.the-row κ₃ γ₃ b₃ o₃ n₃ t) ∷ ‵ (flft κ₃ q₃)
-          ∷ ‵ (froom (sliceTy (tyRef erased mut (pointee (Ms.the-row .written)))) l₃₃ 0) ∷ ‵ (froom (tyRef erased mut (pointee (Ms.the-row .written))) l₃₂ 0) ∷ ‵ (froom (sliceTy (tyRef erased mut (pointee (Le.the-row .written)))) l₃₁ 0) ∷ ‵ (froom (tyRef erased mut (pointee (Le.the-row .written))) l₃₀ 0) ∷ ‵ (froom (sliceTy (tyRef erased mut (pointee (Ac.the-row .written)))) l₂₉ 0) ∷ ‵ (froom (tyRef erased mut (pointee (Ac.the-row .written))) l₂₈ 0) ∷ ‵ (froom (sliceTy (tyRef erased mut (pointee (Pr.the-row .written)))) l₂₇ 0) ∷ ‵ (froom (tyRef erased mut (pointee (Pr.the-row .written))) l₂₆ 0) ∷ ‵ (froom (sliceTy (tyRef erased imm (pointee (Ms.the-row .written)))) l₂₅ 0) ∷ ‵ (froom (tyRef erased imm (pointee (Ms.the-row .written))) l₂₄ 0) ∷ ‵ (froom (sliceTy (tyRef erased imm (pointee (Le.the-row .written)))) l₂₃ 0) ∷ ‵ (froom (tyRef erased imm (pointee (Le.the-row .written))) l₂₂ 0) ∷ ‵ (froom (sliceTy (tyRef erased imm (pointee (Ac.the-row .written)))) l₂₁ 0) ∷ ‵ (froom (tyRef erased imm (pointee (Ac.the-row .written))) l₂₀ 0) ∷ ‵ (froom (sliceTy (tyRef erased imm (pointee (Pr.the-row .written)))) l₁₉ 0) ∷ ‵ (froom (tyRef erased imm (pointee (Pr.the-row .written))) l₁₈ 0) ∷ ‵ (froom word l₁₇ 0) ∷ ‵ (froom word l₁₆ 0) ∷ ‵ (froom word l₁₅ 0) ∷ ‵ (froom word l₁₄ 0) ∷ ‵ (froom byte l₁₃ 0) ∷ ‵ (froom byte l₁₂ 0) ∷ ‵ (froom tyBool l₁₁ 0) ∷ ‵ (froom tyBool l₁₀ 0) ∷ ‵ (froom tyBool l₉ 0) ∷ ‵ (froom tyBool l₈ 0) ∷ ‵ (froom tyBool l₇ 0) ∷ ‵ (fat fullShare Ev′.mir l₆ 0 (valEv e)) ∷ ‵ (fat fullShare (sliceTy (tyRef (named 3) mut (pointee (Ms.the-row .written)))) l₅ 0 s₃) ∷ ‵ (fat fullShare (sliceTy (tyRef (named 2) mut (pointee (Le.the-row .written)))) l₄ 0 s₂) ∷ ‵ (fat fullShare (sliceTy (tyRef (named 1) mut (pointee (Ac.the-row .written)))) l₃ 0 s₁) ∷ ‵ (fat fullShare (sliceTy (tyRef (named 0) mut (pointee (Pr.the-row .written)))) l₂ 0 s₀) ∷ ‵ (fat fullShare Sz′.mir l₁ 0 (valSz z)) ∷ ‵ (froom An′.mir l₀ 0) ∷ Dies ∷ []) (runs C Λ En pieces.t-1 (atRet En Post))
+          ∷ ‵ (froom (sliceTy (tyRef erased mut (pointee (Ms.the-row .written)))) l₃₂ 0) ∷ ‵ (froom (tyRef erased mut (pointee (Ms.the-row .written))) l₃₁ 0) ∷ ‵ (froom (sliceTy (tyRef erased mut (pointee (Le.the-row .written)))) l₃₀ 0) ∷ ‵ (froom (tyRef erased mut (pointee (Le.the-row .written))) l₂₉ 0) ∷ ‵ (froom (sliceTy (tyRef erased mut (pointee (Ac.the-row .written)))) l₂₈ 0) ∷ ‵ (froom (tyRef erased mut (pointee (Ac.the-row .written))) l₂₇ 0) ∷ ‵ (froom (sliceTy (tyRef erased mut (pointee (Pr.the-row .written)))) l₂₆ 0) ∷ ‵ (froom (tyRef erased mut (pointee (Pr.the-row .written))) l₂₅ 0) ∷ ‵ (froom word l₂₄ 0) ∷ ‵ (froom word l₂₃ 0) ∷ ‵ (froom word l₂₂ 0) ∷ ‵ (froom word l₂₁ 0) ∷ ‵ (froom (sliceTy (tyRef erased imm (pointee (Ms.the-row .written)))) l₂₀ 0) ∷ ‵ (froom (tyRef erased imm (pointee (Ms.the-row .written))) l₁₉ 0) ∷ ‵ (froom (sliceTy (tyRef erased imm (pointee (Le.the-row .written)))) l₁₈ 0) ∷ ‵ (froom (tyRef erased imm (pointee (Le.the-row .written))) l₁₇ 0) ∷ ‵ (froom (sliceTy (tyRef erased imm (pointee (Ac.the-row .written)))) l₁₆ 0) ∷ ‵ (froom (tyRef erased imm (pointee (Ac.the-row .written))) l₁₅ 0) ∷ ‵ (froom (sliceTy (tyRef erased imm (pointee (Pr.the-row .written)))) l₁₄ 0) ∷ ‵ (froom (tyRef erased imm (pointee (Pr.the-row .written))) l₁₃ 0) ∷ ‵ (froom byte l₁₂ 0) ∷ ‵ (froom byte l₁₁ 0) ∷ ‵ (froom tyBool l₁₀ 0) ∷ ‵ (froom tyBool l₉ 0) ∷ ‵ (froom tyBool l₈ 0) ∷ ‵ (froom tyBool l₇ 0) ∷ ‵ (fat fullShare Ev′.mir l₆ 0 (valEv e)) ∷ ‵ (fat fullShare (sliceTy (tyRef (named 3) mut (pointee (Ms.the-row .written)))) l₅ 0 s₃) ∷ ‵ (fat fullShare (sliceTy (tyRef (named 2) mut (pointee (Le.the-row .written)))) l₄ 0 s₂) ∷ ‵ (fat fullShare (sliceTy (tyRef (named 1) mut (pointee (Ac.the-row .written)))) l₃ 0 s₁) ∷ ‵ (fat fullShare (sliceTy (tyRef (named 0) mut (pointee (Pr.the-row .written)))) l₂ 0 s₀) ∷ ‵ (fat fullShare Sz′.mir l₁ 0 (valSz z)) ∷ ‵ (froom An′.mir l₀ 0) ∷ Dies ∷ []) (runs C Λ En pieces.t-1 (atRet En Post))
       part-1 =
-          assigns ! (of-opd ! (reads ! (from ! (fld ! refl (stop !))) (look-in ! 39 (sub ! 1 refl (whole !))))) (from ! (stop !)) (init ! 27 refl (tt, record { fits = room₀ .0 })) $
-          assigns ! (of-opd ! (reads ! (from ! (fld ! refl (stop !))) (look-in ! 38 (sub ! 1 refl (whole !))))) (from ! (stop !)) (init ! 26 refl (tt, record { fits = room₁ .0 })) $
-          assigns ! (of-opd ! (reads ! (from ! (fld ! refl (stop !))) (look-in ! 37 (sub ! 1 refl (whole !))))) (from ! (stop !)) (init ! 25 refl (tt, record { fits = room₂ .0 })) $
-          assigns ! (of-opd ! (reads ! (from ! (fld ! refl (stop !))) (look-in ! 36 (sub ! 1 refl (whole !))))) (from ! (stop !)) (init ! 24 refl (tt, record { fits = room₃ .0 })) $
-          calls-value ! fm (sized.signature .params) bool (sized.ended .kept) (sized.clauses 𝓤 H A mem run) known-sized (valsSz, (uint-vals w64, (uint-vals w64, (uint-vals w64, (uint-vals w64, tt))))) (makesSz, (uint-makes 𝓤 H A W w64, (uint-makes 𝓤 H A W w64, (uint-makes 𝓤 H A W w64, (uint-makes 𝓤 H A W w64, tt))))) vbool bool-tells
-          (z, (n₀, (n₁, (n₂, (n₃, tt))))) (gz, ((refl, room₀ .0), ((refl, room₁ .0), ((refl, room₂ .0), ((refl, room₃ .0), tt))))) tt (id⊢ 𝓤 (emp 𝓤)) all-sized (λ r e′. id⊢ 𝓤 (fact 𝓤 (r ≡ all-sized))) (locals ! (41 ∷ 28 ∷ 27 ∷ 26 ∷ 25 ∷ []) (refl, (refl, (refl, (refl, (refl, tt)))))) (λ g7.
-          land-in ! 34 refl (tt, tt) $
+          lends-again ! 38 27 26 refl refl refl refl (tt, tt) refl refl (tt, (tt, (record { fits = room₀ .0 }, tt))) refl $
+          calls-shared ! fm Pr.the-row (plain (λ _. Sz.the-row) ∷ []) bool (yes, tt) vbool bool-tells b₀ o₀ n₀ ps refl (λ ν. (valsSz, tt)) (λ ν. (makesSz, tt)) (λ ν. (z, tt)) (λ ν. (gz, tt))
+          (proposers-in-range.clauses 𝓤 H A mem run) known-proposers-in-range p (λ ν δ. tt) (λ ν δ. id⊢ 𝓤 (emp 𝓤)) (λ ν δ r e′. id⊢ 𝓤 (fact 𝓤 (r ≡ p))) (λ ν δ. (locals ! (29 ∷ 42 ∷ []) (refl, (refl, tt)))) (λ g7.
+          land-in ! 33 refl (tt, tt) $
+          lends-again ! 37 25 24 refl refl refl refl (tt, tt) refl refl (tt, (tt, (record { fits = room₁ .0 }, tt))) refl $
+          move ! (2 ∷ 3 ∷ []) $
+          calls-shared ! fm Ac.the-row (plain (λ _. Sz.the-row) ∷ []) bool (yes, tt) vbool bool-tells b₁ o₁ n₁ acs refl (λ ν. (valsSz, tt)) (λ ν. (makesSz, tt)) (λ ν. (z, tt)) (λ ν. (gz, tt))
+          (acceptors-in-range.clauses 𝓤 H A mem run) known-acceptors-in-range a (λ ν δ. tt) (λ ν δ. id⊢ 𝓤 (emp 𝓤)) (λ ν δ r e′. id⊢ 𝓤 (fact 𝓤 (r ≡ a))) (λ ν δ. (locals ! (27 ∷ 42 ∷ []) (refl, (refl, tt)))) (λ g8.
+          land-in ! 32 refl (tt, tt) $
           forget ! 27 refl $
           forget ! 26 refl $
           forget ! 25 refl $
           forget ! 24 refl $
-          part-2 g7)
+          part-2 g7 g8))
 
     walk : ent 𝓤 (onEntry 𝓤 H A this.signature (κ₀, (κ₁, (κ₂, (κ₃, tt)))) (q₀, (q₁, (q₂, (q₃, tt)))) (z, (listAt Pr.the-row b₀ o₀ ps γ₀, (listAt Ac.the-row b₁ o₁ acs γ₁, (listAt Le.the-row b₂ o₂ ls γ₂, (listAt Ms.the-row b₃ o₃ t γ₃, (e, tt)))))) at) (WpFn 𝓤 H C Λ code.function (valSz z ∷ s₀ ∷ s₁ ∷ s₂ ∷ s₃ ∷ valEv e ∷ []) Post)
     walk =
         qed W ((‵ (flft κ₀ q₀) ⊛ ‵ (flft κ₁ q₁) ⊛ ‵ (flft κ₂ q₂) ⊛ ‵ (flft κ₃ q₃) ⊛ ‵ ftrue) ∷ ‵ (owns (Sz.the-row ∷ MutSlice (named 0) κ₀ Pr.the-row ∷ MutSlice (named 1) κ₁ Ac.the-row ∷ MutSlice (named 2) κ₂ Le.the-row ∷ MutSlice (named 3) κ₃ Ms.the-row ∷ Ev.the-row ∷ []) (z, (listAt Pr.the-row b₀ o₀ ps γ₀, (listAt Ac.the-row b₁ o₁ acs γ₁, (listAt Le.the-row b₂ o₂ ls γ₂, (listAt Ms.the-row b₃ o₃ t γ₃, (e, tt)))))) at) ∷ []) ∵ enter ! C Λ code.function (valSz z ∷ s₀ ∷ s₁ ∷ s₂ ∷ s₃ ∷ valEv e ∷ []) _ $
-        allocates ! (λ l₀ l₁ l₂ l₃ l₄ l₅ l₆ l₇ l₈ l₉ l₁₀ l₁₁ l₁₂ l₁₃ l₁₄ l₁₅ l₁₆ l₁₇ l₁₈ l₁₉ l₂₀ l₂₁ l₂₂ l₂₃ l₂₄ l₂₅ l₂₆ l₂₇ l₂₈ l₂₉ l₃₀ l₃₁ l₃₂ l₃₃. params1 ! $
-        pass1 ! (init ! 33 refl (typedSz z gz)) $ pass1 ! (init ! 32 refl (tt, (tt, (record { fits = room₀ .0 }, tt)))) $ pass1 ! (init ! 31 refl (tt, (tt, (record { fits = room₁ .0 }, tt)))) $ pass1 ! (init ! 30 refl (tt, (tt, (record { fits = room₂ .0 }, tt)))) $ pass1 ! (init ! 29 refl (tt, (tt, (record { fits = room₃ .0 }, tt)))) $ pass1 ! (init ! 28 refl (typedEv e ge)) $ pass0 ! $
-        move ! (36 ∷ []) $ fsplit ! $ move ! (1 ∷ []) $ fsplit ! $ move ! (1 ∷ []) $ fsplit ! $ move ! (1 ∷ []) $ fsplit ! $ move ! (1 ∷ []) $ fsplit ! $
-        move ! (41 ∷ []) $ split ! $ move ! (1 ∷ []) $ split ! $ move ! (1 ∷ []) $ split ! $ move ! (1 ∷ []) $ split ! $
-        keep ! (9 ∷ 4 ∷ 8 ∷ 3 ∷ 7 ∷ 2 ∷ 5 ∷ 0 ∷ 12 ∷ 13 ∷ 14 ∷ 15 ∷ 16 ∷ 17 ∷ 18 ∷ 19 ∷ 20 ∷ 21 ∷ 22 ∷ 23 ∷ 24 ∷ 25 ∷ 26 ∷ 27 ∷ 28 ∷ 29 ∷ 30 ∷ 31 ∷ 32 ∷ 33 ∷ 34 ∷ 35 ∷ 36 ∷ 37 ∷ 38 ∷ 39 ∷ 40 ∷ 41 ∷ 42 ∷ 43 ∷ 44 ∷ 45 ∷ 11 ∷ []) $ part-1 l₀ l₁ l₂ l₃ l₄ l₅ l₆ l₇ l₈ l₉ l₁₀ l₁₁ l₁₂ l₁₃ l₁₄ l₁₅ l₁₆ l₁₇ l₁₈ l₁₉ l₂₀ l₂₁ l₂₂ l₂₃ l₂₄ l₂₅ l₂₆ l₂₇ l₂₈ l₂₉ l₃₀ l₃₁ l₃₂ l₃₃)
+        allocates ! (λ l₀ l₁ l₂ l₃ l₄ l₅ l₆ l₇ l₈ l₉ l₁₀ l₁₁ l₁₂ l₁₃ l₁₄ l₁₅ l₁₆ l₁₇ l₁₈ l₁₉ l₂₀ l₂₁ l₂₂ l₂₃ l₂₄ l₂₅ l₂₆ l₂₇ l₂₈ l₂₉ l₃₀ l₃₁ l₃₂. params1 ! $
+        pass1 ! (init ! 32 refl (typedSz z gz)) $ pass1 ! (init ! 31 refl (tt, (tt, (record { fits = room₀ .0 }, tt)))) $ pass1 ! (init ! 30 refl (tt, (tt, (record { fits = room₁ .0 }, tt)))) $ pass1 ! (init ! 29 refl (tt, (tt, (record { fits = room₂ .0 }, tt)))) $ pass1 ! (init ! 28 refl (tt, (tt, (record { fits = room₃ .0 }, tt)))) $ pass1 ! (init ! 27 refl (typedEv e ge)) $ pass0 ! $
+        move ! (35 ∷ []) $ fsplit ! $ move ! (1 ∷ []) $ fsplit ! $ move ! (1 ∷ []) $ fsplit ! $ move ! (1 ∷ []) $ fsplit ! $ move ! (1 ∷ []) $ fsplit ! $
+        move ! (40 ∷ []) $ split ! $ move ! (1 ∷ []) $ split ! $ move ! (1 ∷ []) $ split ! $ move ! (1 ∷ []) $ split ! $
+        keep ! (9 ∷ 4 ∷ 8 ∷ 3 ∷ 7 ∷ 2 ∷ 5 ∷ 0 ∷ 12 ∷ 13 ∷ 14 ∷ 15 ∷ 16 ∷ 17 ∷ 18 ∷ 19 ∷ 20 ∷ 21 ∷ 22 ∷ 23 ∷ 24 ∷ 25 ∷ 26 ∷ 27 ∷ 28 ∷ 29 ∷ 30 ∷ 31 ∷ 32 ∷ 33 ∷ 34 ∷ 35 ∷ 36 ∷ 37 ∷ 38 ∷ 39 ∷ 40 ∷ 41 ∷ 42 ∷ 43 ∷ 44 ∷ 11 ∷ []) $ part-1 l₀ l₁ l₂ l₃ l₄ l₅ l₆ l₇ l₈ l₉ l₁₀ l₁₁ l₁₂ l₁₃ l₁₄ l₁₅ l₁₆ l₁₇ l₁₈ l₁₉ l₂₀ l₂₁ l₂₂ l₂₃ l₂₄ l₂₅ l₂₆ l₂₇ l₂₈ l₂₉ l₃₀ l₃₁ l₃₂)
 
-module _ {M : Type 1} (𝓤 : URA M) (H : Heap 𝓤) (A : Atoms 𝓤) (W : Given 𝓤 H A) (mem : Memory → SProp 𝓤) (run : Routine → Fun 𝓤) (𝓣 : Tables 𝓤 H) (known-sized : Triple 𝓤 (𝓣 .C #sized) (Of-sized 𝓤 H A mem run)) (known-proposers-in-range : Triple 𝓤 (𝓣 .C #proposers-in-range) (Of-proposers-in-range 𝓤 H A mem run)) (known-acceptors-in-range : Triple 𝓤 (𝓣 .C #acceptors-in-range) (Of-acceptors-in-range 𝓤 H A mem run)) (known-learners-in-range : Triple 𝓤 (𝓣 .C #learners-in-range) (Of-learners-in-range 𝓤 H A mem run)) (known-messages-in-range : Triple 𝓤 (𝓣 .C #messages-in-range) (Of-messages-in-range 𝓤 H A mem run)) (known-sound-no : Triple 𝓤 (𝓣 .C #sound-no) (Of-sound-no 𝓤 H A mem run)) (known-once-if : Triple 𝓤 (𝓣 .C #once-if) (Of-once-if 𝓤 H A mem run)) (known-repeat : Triple 𝓤 (𝓣 .C #repeat) (Of-repeat 𝓤 H A mem run)) where
+module _ {M : Type 1} (𝓤 : URA M) (H : Heap 𝓤) (A : Atoms 𝓤) (W : Given 𝓤 H A) (mem : Memory → SProp 𝓤) (run : Routine → Fun 𝓤) (𝓣 : Tables 𝓤 H) (known-proposers-in-range : Triple 𝓤 (𝓣 .C #proposers-in-range) (Of-proposers-in-range 𝓤 H A mem run)) (known-acceptors-in-range : Triple 𝓤 (𝓣 .C #acceptors-in-range) (Of-acceptors-in-range 𝓤 H A mem run)) (known-learners-in-range : Triple 𝓤 (𝓣 .C #learners-in-range) (Of-learners-in-range 𝓤 H A mem run)) (known-messages-in-range : Triple 𝓤 (𝓣 .C #messages-in-range) (Of-messages-in-range 𝓤 H A mem run)) (known-sound-no : Triple 𝓤 (𝓣 .C #sound-no) (Of-sound-no 𝓤 H A mem run)) (known-once-if : Triple 𝓤 (𝓣 .C #once-if) (Of-once-if 𝓤 H A mem run)) (known-repeat : Triple 𝓤 (𝓣 .C #repeat) (Of-repeat 𝓤 H A mem run)) where
   f-walks : Walks 𝓤 H A this.ended stayed (WpFn 𝓤 H (𝓣 .C) (𝓣 .Λ) code.function) (this.clauses 𝓤 H A mem run)
   f-walks = walked 𝓤 H A this.ended stayed (this.clauses 𝓤 H A mem run) (WpFn 𝓤 H (𝓣 .C) (𝓣 .Λ) code.function) (λ κs. (valsSz, (slice-vals, (slice-vals, (slice-vals, (slice-vals, (valsEv, tt)))))))
       (λ κs. (LL.tells Sz.the-type Sz′.the-laws, (mut-slice-tells (named 0) (κs .0) Pr.the-row, (mut-slice-tells (named 1) (κs .1 .0) Ac.the-row, (mut-slice-tells (named 2) (κs .1 .1 .0) Le.the-row, (mut-slice-tells (named 3) (κs .1 .1 .1 .0) Ms.the-row, (LL.tells Ev.the-type Ev′.the-laws, tt)))))))
-      (λ κs qs bounds a g are. via 𝓤 _ (fst∗ 𝓤 _ (emp 𝓤)) (walk 𝓤 H A W mem run (κs .0) (qs .0) (a .1 .0 .ptr .0) (a .1 .0 .ptr .1) (a .1 .0 .name) (κs .1 .0) (qs .1 .0) (a .1 .1 .0 .ptr .0) (a .1 .1 .0 .ptr .1) (a .1 .1 .0 .name) (κs .1 .1 .0) (qs .1 .1 .0) (a .1 .1 .1 .0 .ptr .0) (a .1 .1 .1 .0 .ptr .1) (a .1 .1 .1 .0 .name) (κs .1 .1 .1 .0) (qs .1 .1 .1 .0) (a .1 .1 .1 .1 .0 .ptr .0) (a .1 .1 .1 .1 .0 .ptr .1) (a .1 .1 .1 .1 .0 .name) (a .0) (a .1 .0 .now) (a .1 .1 .0 .now) (a .1 .1 .1 .0 .now) (a .1 .1 .1 .1 .0 .now) (a .1 .1 .1 .1 .1 .0) (are .0) (are .1 .0 .0 .1) (are .1 .1 .0 .0 .1) (are .1 .1 .1 .0 .0 .1) (are .1 .1 .1 .1 .0 .0 .1) (are .1 .1 .1 .1 .1 .0) 𝓣 known-sized known-proposers-in-range known-acceptors-in-range known-learners-in-range known-messages-in-range known-sound-no known-once-if known-repeat))
+      (λ κs qs bounds a g are. via 𝓤 _ (fst∗ 𝓤 _ (emp 𝓤)) (walk 𝓤 H A W mem run (κs .0) (qs .0) (a .1 .0 .ptr .0) (a .1 .0 .ptr .1) (a .1 .0 .name) (κs .1 .0) (qs .1 .0) (a .1 .1 .0 .ptr .0) (a .1 .1 .0 .ptr .1) (a .1 .1 .0 .name) (κs .1 .1 .0) (qs .1 .1 .0) (a .1 .1 .1 .0 .ptr .0) (a .1 .1 .1 .0 .ptr .1) (a .1 .1 .1 .0 .name) (κs .1 .1 .1 .0) (qs .1 .1 .1 .0) (a .1 .1 .1 .1 .0 .ptr .0) (a .1 .1 .1 .1 .0 .ptr .1) (a .1 .1 .1 .1 .0 .name) (a .0) (a .1 .0 .now) (a .1 .1 .0 .now) (a .1 .1 .1 .0 .now) (a .1 .1 .1 .1 .0 .now) (a .1 .1 .1 .1 .1 .0) (are .0) (are .1 .0 .0 .1) (are .1 .1 .0 .0 .1) (are .1 .1 .1 .0 .0 .1) (are .1 .1 .1 .1 .0 .0 .1) (are .1 .1 .1 .1 .1 .0) 𝓣 known-proposers-in-range known-acceptors-in-range known-learners-in-range known-messages-in-range known-sound-no known-once-if known-repeat))
 
   f-meets : Meets 𝓤 H A this.signature (WpFn 𝓤 H (𝓣 .C) (𝓣 .Λ) code.function) (this.spec 𝓤 H A mem run)
   f-meets = walk-meets 𝓤 H A this.ended stayed W (goes-none 𝓤 H A W 4 (λ _. Sz.the-row) yes (λ κs x f. refl), (goes-slice 𝓤 H A W 4 0 tt (plain (λ _. Pr.the-row)), (goes-slice 𝓤 H A W 4 1 tt (plain (λ _. Ac.the-row)), (goes-slice 𝓤 H A W 4 2 tt (plain (λ _. Le.the-row)), (goes-slice 𝓤 H A W 4 3 tt (plain (λ _. Ms.the-row)), (goes-none 𝓤 H A W 4 (λ _. Ev.the-row) yes (λ κs x f. refl), tt))))))
@@ -375,7 +360,6 @@ unfolding code.routine tablesOf
 single-step-spec 𝓤 H 𝓜 𝓖 𝓡 =
     entered 𝓤 H (tripleOf 𝓤 H (𝓖 .A) this.signature (this.spec 𝓤 H (𝓖 .A) (𝓜 .mem) (𝓡 .run))) (tables 𝓤 H 𝓜 𝓡 code.env .C) (tables 𝓤 H 𝓜 𝓡 code.env .Λ) name code.function (code.unfolded 𝓤 H 𝓜 𝓡)
     (f-meets 𝓤 H (𝓖 .A) (givenOf 𝓤 H 𝓜 𝓖) (𝓜 .mem) (𝓡 .run) (tablesOf 𝓤 H 𝓜 (tables 𝓤 H 𝓜 𝓡 code.env))
-    (cited 𝓤 H (Of-sized 𝓤 H (𝓖 .A) (𝓜 .mem) (𝓡 .run)) 𝓜 𝓡 code.env #sized sized-def.routine code.calls-machine·calls·sized (sized-thm.met 𝓤 H 𝓜 𝓖 𝓡))
     (cited 𝓤 H (Of-proposers-in-range 𝓤 H (𝓖 .A) (𝓜 .mem) (𝓡 .run)) 𝓜 𝓡 code.env #proposers-in-range proposers-in-range-def.routine code.calls-machine·lent·proposers-in-range (proposers-in-range-thm.met 𝓤 H 𝓜 𝓖 𝓡))
     (cited 𝓤 H (Of-acceptors-in-range 𝓤 H (𝓖 .A) (𝓜 .mem) (𝓡 .run)) 𝓜 𝓡 code.env #acceptors-in-range acceptors-in-range-def.routine code.calls-machine·lent·acceptors-in-range (acceptors-in-range-thm.met 𝓤 H 𝓜 𝓖 𝓡))
     (cited 𝓤 H (Of-learners-in-range 𝓤 H (𝓖 .A) (𝓜 .mem) (𝓡 .run)) 𝓜 𝓡 code.env #learners-in-range learners-in-range-def.routine code.calls-machine·lent·learners-in-range (learners-in-range-thm.met 𝓤 H 𝓜 𝓖 𝓡))

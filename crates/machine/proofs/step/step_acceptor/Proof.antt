@@ -459,7 +459,7 @@ module _ {M : Type 1} (𝓤 : URA M) (H : Heap 𝓤) (A : Atoms 𝓤) (W : Given
           (load-acceptor.clauses 𝓤 H A mem run) known-load-acceptor c (λ ν δ. tt) (λ ν δ. factI 𝓤 _ (emp 𝓤) in-p) (λ ν δ r e′. id⊢ 𝓤 (fact 𝓤 (r ≡ c))) (λ ν δ. (locals ! (16 ∷ 26 ∷ []) (refl, (refl, tt)))) (λ g9.
           land-in ! 22 refl (typedAc c g9) $
           calls-value ! fm (arms-decide-acceptor.signature .params) Dn.the-row (arms-decide-acceptor.ended .kept) (arms-decide-acceptor.clauses 𝓤 H A mem run) known-arms-decide-acceptor (valsSz, (valsEv, (valsMs, (valsAc, tt)))) (makesSz, (makesEv, (makesMs, (makesAc, tt)))) valDn (LL.tells Dn.the-type Dn′.the-laws)
-          (z, (e, (m, (c, tt)))) (gz, (ge, (gm, (g9, tt)))) tt (id⊢ 𝓤 (emp 𝓤)) d (λ r e′. fact-mono 𝓤 (r ≡ decidedIn 2 z e m freshProposer c) (r ≡ d) (λ p. p ∙ decided-in 2 z e m freshProposer c (fit .1 .1 .0) (fit .0))) (locals ! (31 ∷ 28 ∷ 26 ∷ 23 ∷ []) (refl, (refl, (refl, (refl, tt))))) (λ g10.
+          (z, (e, (m, (c, tt)))) (gz, (ge, (gm, (g9, tt)))) tt (id⊢ 𝓤 (emp 𝓤)) d (λ r e′. fact-mono 𝓤 (r ≡ decidedIn 2 z e m freshProposer c) (r ≡ d) (λ said. said ∙ decided-in 2 z e m freshProposer c (fit .1 .1 .0) (fit .0))) (locals ! (31 ∷ 28 ∷ 26 ∷ 23 ∷ []) (refl, (refl, (refl, (refl, tt))))) (λ g10.
           land-in ! 21 refl (typedDn d g10) $
           forget ! 14 refl $
           forget ! 13 refl $

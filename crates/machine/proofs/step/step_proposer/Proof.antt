@@ -459,7 +459,7 @@ module _ {M : Type 1} (𝓤 : URA M) (H : Heap 𝓤) (A : Atoms 𝓤) (W : Given
           (load-proposer.clauses 𝓤 H A mem run) known-load-proposer q (λ ν δ. tt) (λ ν δ. factI 𝓤 _ (emp 𝓤) in-p) (λ ν δ r e′. id⊢ 𝓤 (fact 𝓤 (r ≡ q))) (λ ν δ. (locals ! (16 ∷ 26 ∷ []) (refl, (refl, tt)))) (λ g9.
           land-in ! 22 refl (typedPr q g9) $
           calls-value ! fm (arms-decide-proposer.signature .params) Dn.the-row (arms-decide-proposer.ended .kept) (arms-decide-proposer.clauses 𝓤 H A mem run) known-arms-decide-proposer (valsSz, (valsEv, (valsMs, (valsPr, tt)))) (makesSz, (makesEv, (makesMs, (makesPr, tt)))) valDn (LL.tells Dn.the-type Dn′.the-laws)
-          (z, (e, (m, (q, tt)))) (gz, (ge, (gm, (g9, tt)))) tt (id⊢ 𝓤 (emp 𝓤)) d (λ r e′. fact-mono 𝓤 (r ≡ decidedIn 1 z e m q freshAcceptor) (r ≡ d) (λ p. p ∙ decided-in 1 z e m q freshAcceptor (fit .1 .1 .0) (fit .0))) (locals ! (31 ∷ 28 ∷ 26 ∷ 23 ∷ []) (refl, (refl, (refl, (refl, tt))))) (λ g10.
+          (z, (e, (m, (q, tt)))) (gz, (ge, (gm, (g9, tt)))) tt (id⊢ 𝓤 (emp 𝓤)) d (λ r e′. fact-mono 𝓤 (r ≡ decidedIn 1 z e m q freshAcceptor) (r ≡ d) (λ said. said ∙ decided-in 1 z e m q freshAcceptor (fit .1 .1 .0) (fit .0))) (locals ! (31 ∷ 28 ∷ 26 ∷ 23 ∷ []) (refl, (refl, (refl, (refl, tt))))) (λ g10.
           land-in ! 21 refl (typedDn d g10) $
           forget ! 14 refl $
           forget ! 13 refl $

@@ -345,7 +345,7 @@ module _ {M : Type 1} (𝓤 : URA M) (H : Heap 𝓤) (A : Atoms 𝓤) (W : Given
           ∷ ‵ (froom (sliceTy (tyRef erased mut (pointee (Ms.the-row .written)))) l₁₈ 0) ∷ ‵ (froom (tyRef erased mut (pointee (Ms.the-row .written))) l₁₇ 0) ∷ ‵ (froom (sliceTy (tyRef erased mut (pointee (Ms.the-row .written)))) l₁₆ 0) ∷ ‵ (froom (tyRef erased mut (pointee (Ms.the-row .written))) l₁₅ 0) ∷ ‵ (froom tyUnit l₁₄ 0) ∷ ‵ (froom (sliceTy (tyRef erased imm (pointee (Ms.the-row .written)))) l₁₃ 0) ∷ ‵ (froom (tyRef erased imm (pointee (Ms.the-row .written))) l₁₂ 0) ∷ ‵ (froom Sd′.mir l₁₁ 0) ∷ ‵ (froom Ms′.mir l₁₀ 0) ∷ ‵ (froom Dn′.mir l₉ 0) ∷ ‵ (froom byte l₈ 0) ∷ ‵ (froom byte l₇ 0) ∷ ‵ (froom Dn′.mir l₆ 0) ∷ ‵ (fat fullShare Ms′.mir l₅ 0 (valMs m)) ∷ ‵ (fat fullShare word l₄ 0 (vint w64 k)) ∷ ‵ (fat fullShare Ev′.mir l₃ 0 (valEv e)) ∷ ‵ (fat fullShare (sliceTy (tyRef (named 0) mut (pointee (Ms.the-row .written)))) l₂ 0 s₀) ∷ ‵ (fat fullShare Sz′.mir l₁ 0 (valSz z)) ∷ ‵ (froom An′.mir l₀ 0) ∷ Dies ∷ []) (runs C Λ En pieces.t-1 (atRet En Post))
       part-1 =
           calls-value ! fm (arms-decide-table.signature .params) Dn.the-row (arms-decide-table.ended .kept) (arms-decide-table.clauses 𝓤 H A mem run) known-arms-decide-table (valsSz, (valsEv, (valsMs, tt))) (makesSz, (makesEv, (makesMs, tt))) valDn (LL.tells Dn.the-type Dn′.the-laws)
-          (z, (e, (m, tt))) (gz, (ge, (gm, tt))) tt (id⊢ 𝓤 (emp 𝓤)) d (λ r e′. fact-mono 𝓤 (r ≡ decidedIn 0 z e m freshProposer freshAcceptor) (r ≡ d) (λ p. p ∙ decided-in 0 z e m freshProposer freshAcceptor (fit .1 .0) (fit .0))) (locals ! (20 ∷ 18 ∷ 16 ∷ []) (refl, (refl, (refl, tt)))) (λ g6.
+          (z, (e, (m, tt))) (gz, (ge, (gm, tt))) tt (id⊢ 𝓤 (emp 𝓤)) d (λ r e′. fact-mono 𝓤 (r ≡ decidedIn 0 z e m freshProposer freshAcceptor) (r ≡ d) (λ said. said ∙ decided-in 0 z e m freshProposer freshAcceptor (fit .1 .0) (fit .0))) (locals ! (20 ∷ 18 ∷ 16 ∷ []) (refl, (refl, (refl, tt)))) (λ g6.
           land-in ! 14 refl (typedDn d g6) $
           calls-value ! fm (need-in.signature .params) u8 (need-in.ended .kept) (need-in.clauses 𝓤 H A mem run) known-need-in (valsDn, tt) (makesDn, tt) (vint w8) (uint-tells w8)
           (d, tt) (g6, tt) tt (id⊢ 𝓤 (emp 𝓤)) (d .need) (λ r e′. id⊢ 𝓤 (fact 𝓤 (r ≡ (d .need)))) (locals ! (15 ∷ []) (refl, tt)) (λ g7.

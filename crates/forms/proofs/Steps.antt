@@ -1,14 +1,13 @@
 -- One number of those that are left to pass over, to take or to write. Assumes nothing.
-use mathlib.Core.Path.{_≡_, refl, sym, ap, _∙_}
+use mathlib.Core.Path.{_≡_, refl, sym, ap}
 use mathlib.Core.Bool.{Bool, true, false, _&&_}
 use mathlib.Core.List.{List, [], _∷_, _++_}
 use Prim.Native.Nat.{ℕ, suc, _+_, _-_, _<_, _≤_}
 use native.Mathlib.Omega.{arith}
 use native.Mathlib.Numerals.{add-one}
-use native.Mathlib.Nat.{add-zero, add-suc, suc-add}
 use lib.Dec.{leb}
 use lib.ListN.{length, drop, getD, set, drop-of-length-le, length-append}
-use lib.Seq.{sets, drop-cons, set-out}
+use lib.Seq.{sets, drop-cons}
 use borrow.Author.Tests.{leb-true, leb-false, le-leb, lt-leb}
 use Rattle.numbers.specs.Coding.{mostOf, readNumber, form}
 use Rattle.numbers.specs.declared.Limit.{Limit}
@@ -16,6 +15,7 @@ use Rattle.numbers.specs.declared.Refusal.{Refusal}
 use Rattle.numbers.specs.declared.Read.the-variants as read
 use Rattle.forms.specs.declared.Place.the-variants as place
 use Rattle.forms.specs.Forms.{Outcome, got, refused, testRead, prepend, andThen, row, plain, placeOf, thenNumbers, numbersAt, forms, allWithin}
+pub use Rattle.numbers.proofs.Ends.{sets-out, sets-append}
 
 -- where reading ends does not hang on the numbers before
 pub place-prepend : (vs : List ℕ) (o : Outcome) → placeOf (prepend vs o) ≡ placeOf o
@@ -72,16 +72,6 @@ module _ (limit : Limit) (bytes : List ℕ) (n i at : ℕ) where
   stored-number {v} {next} room h e =
       let t = numbersAt (n - (i + 1)) limit bytes next in
       rw (taken-number h e) (ap (λ (k : ℕ). sets (set room i v) k t) (sym (add-one i)))
-
--- stores past the end change nothing
-pub sets-out : (vs l : List ℕ) (i : ℕ) → length l ≤ i → sets l i vs ≡ l
-sets-out [] l i h = refl
-sets-out (v ∷ vs) l i h = rw (set-out l i v h) (sets-out vs l (suc i) (omega arith))
-
--- a run of stores and then another
-pub sets-append : (us vs l : List ℕ) (i : ℕ) → sets l i (us ++ vs) ≡ sets (sets l i us) (i + length us) vs
-sets-append [] vs l i = rw (add-zero i)
-sets-append (u ∷ us) vs l i = sets-append us vs (set l i u) (suc i) ∙ rw (suc-add i (length us), add-suc i (length us))
 
 module _ (vs : List ℕ) (i : ℕ) where
   -- the number at a place, and those after it

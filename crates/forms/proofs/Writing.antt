@@ -5,10 +5,10 @@ use mathlib.Core.List.{List}
 use Prim.Native.Nat.{ℕ, _+_, _<_, _≤_}
 use native.Mathlib.Omega.{arith}
 use lib.ListN.{length}
-use lib.Seq.{sets}
 use Rattle.numbers.specs.Coding.{refusedWrite}
 use Rattle.numbers.specs.declared.Limit.{Limit}
 use Rattle.numbers.specs.declared.Written.the-variants as written
+use Rattle.numbers.proofs.Ends.{Ends}
 use Rattle.numbers.proofs.Puts as put
 use Rattle.numbers.proofs.Puts.{Puts}
 use Rattle.forms.specs.Forms.{forms, allWithin, limitsNo}
@@ -32,5 +32,5 @@ module _ (limit : Limit) (vs d : List ℕ) (at : ℕ) where
   no-room h l = put.no-room (limitsNo limit vs) (forms vs) d at (limits-within limit vs h) l
 
   -- the forms are written
-  pub wrote : allWithin limit vs ≡ true → at + length (forms vs) ≤ length d → Puts (limitsNo limit vs) (forms vs) d at (written.Next (at + length (forms vs))) (sets d at (forms vs))
-  wrote h l = put.wrote (limitsNo limit vs) (forms vs) d at (limits-within limit vs h) l
+  pub wrote : {m : ℕ} {e : List ℕ} → allWithin limit vs ≡ true → at + length (forms vs) ≤ length d → Ends (forms vs) d at m e → Puts (limitsNo limit vs) (forms vs) d at (written.Next m) e
+  wrote h l p = put.put-wrote (limitsNo limit vs) (forms vs) d at (limits-within limit vs h) l p

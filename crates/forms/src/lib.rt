@@ -1,11 +1,9 @@
 // Numbers of the coding one after the other, as every written form has them: passed over, taken into lent room, and written.
 ghost use mathlib.Core.Path.{_≡_};
-ghost use Prim.Native.Nat.{_+_, _≤_};
-ghost use mathlib.Core.Bool.{true};
 ghost use lib.Dec.{leb};
 ghost use lib.ListN.{length};
 ghost use lib.Seq.{sets};
-ghost use Rattle.numbers.specs.Coding.{writtenNo};
+ghost use Rattle.numbers.specs.Coding.{putEnd, writtenNo};
 ghost use Rattle.forms.specs.Forms.{placeOf, plain, numbersAt, endedAt, forms, allWithin, numbersWritten, afterNumbers, numbersWrittenNo};
 use numbers::Limit;
 use numbers::Read;
@@ -111,25 +109,16 @@ pub fn all_within(values: &[u64], limit: Limit) -> bool
     true
 }
 
-// Writes the numbers one after the other from a place on that has room for them, and gives the place after them.
-fn put_numbers(buffer: &mut [u8], at: usize, values: &[u64], limit: Limit) -> usize
-    requires { ⌜ (allWithin limit (now values) ≡ true) × (at + length (forms (now values)) ≤ length (now buffer)) ⌝ }
-    ensures { λ r. ⌜ (r ≡ at + length (forms (now (values .entry))))
+// Puts the numbers one after the other from a place on, and gives the place after them. What would stand past the buffer's end is left out.
+pub fn put_numbers(buffer: &mut [u8], at: usize, values: &[u64]) -> usize
+    ensures { λ r. ⌜ (r ≡ putEnd (forms (now (values .entry))) (now (buffer .entry)) at)
         × (now (buffer .exit) ≡ sets (now (buffer .entry)) at (forms (now (values .entry)))) ⌝ }
 {
     let mut next = at;
-    let mut i: usize = 0;
-    while i < values.len() {
-        let answer = numbers::write_number(buffer, next, values[i], limit);
-        match answer {
-            Written::Next(n) => {
-                next = n;
-            }
-            Written::Refused(_) => {
-                return next;
-            }
-        }
-        i += 1;
+    let mut done: usize = 0;
+    while done < values.len() {
+        next = numbers::put_number(buffer, next, values[done]);
+        done += 1;
     }
     next
 }
@@ -150,5 +139,5 @@ pub fn write_numbers(buffer: &mut [u8], at: usize, values: &[u64], limit: Limit)
     if !fit_in(values, length - at) {
         return Written::Refused(Refusal { no: 8 });
     }
-    Written::Next(put_numbers(buffer, at, values, limit))
+    Written::Next(put_numbers(buffer, at, values))
 }

@@ -1,17 +1,18 @@
--- The shortest form of a number, group by group, and what is left of it to write. Assumes nothing.
-use mathlib.Core.Path.{_≡_, refl, _∙_}
+-- The shortest form of a number, group by group, and what is left of it to put. Assumes nothing.
+use mathlib.Core.Path.{_≡_, refl, sym, ap, _∙_}
 use mathlib.Core.Bool.{Bool, true, false}
 use mathlib.Core.List.{List, [], _∷_}
 use Prim.Native.Nat.{ℕ, zero, suc, _+_, _/_, _%_, _^_, _<_, _≤_}
 use native.Mathlib.Omega.{arith}
-use native.Mathlib.Nat.{pow-suc, div-lt-iff-lt-mul}
+use native.Mathlib.Nat.{pow-suc, div-lt-iff-lt-mul, le-div-iff-mul-le}
 use native.Mathlib.Numerals.{add-one}
 use lib.Dec.{ltb, lit<}
 use lib.ListN.{length, getD, set, length-set}
 use lib.Seq.{sets}
 use borrow.Author.Tests.{ltb-true, lt-ltb, le-ltb}
 use Rattle.choice.specs.Choice.{if_then_else_}
-use Rattle.numbers.specs.Coding.{formIn, form}
+use Rattle.numbers.specs.Coding.{formIn, form, putEnd}
+use Rattle.numbers.proofs.Ends.{Ends, sets-out, end-cons}
 
 -- more than one group
 pub form-more : (g x : ℕ) → 128 ≤ x → formIn (suc g) x ≡ (x % 128 + 128) ∷ formIn g (x / 128)
@@ -57,6 +58,14 @@ form-short (suc g) (suc f) x s = go (form-short g f (x / 128) (less (suc g) x s)
     go h true = omega arith
     go h false = omega arith
 
+-- a number of g + 1 groups, where it has one more than g
+pub form-size : (g f x : ℕ) → g ≤ f → (0 < g → 128 ^ g ≤ x) → x < 128 ^ suc g → length (formIn (suc f) x) ≡ suc g
+form-size zero f x l b s = rw (form-last f x (omega arith))
+form-size (suc g) zero x l b s = absurd (omega arith)
+form-size (suc g) (suc f) x l b s =
+    let h = rw (pow-suc 128 g) at (b (omega arith)) in
+    rw (form-more (suc f) x (omega arith)) (ap suc (form-size g f (x / 128) (omega arith) (λ z. le-div-iff-mul-le (lit< tt) .1 h) (less (suc g) x s)))
+
 -- a list of bytes
 abbrev pub Bytes : List ℕ → Type 0
 Bytes s = (i : ℕ) → getD s i 0 < 256
@@ -73,44 +82,40 @@ form-in-bytes (suc g) x i = go (form-in-bytes g (x / 128)) (ltb x 128) refl i
     go r false e zero = omega arith
     go r false e (suc k) = r k
 
--- x is left of v, to be written from i on; what the whole comes to is fixed
+-- x is left of v, to be put from i on; what the whole comes to is fixed
 pub record Left (d₀ : List ℕ) (at v : ℕ) (d : List ℕ) (i x : ℕ) : Type 0 where
   pub g : ℕ
   pub small : x < 128 ^ suc g
   pub same : length d ≡ length d₀
-  pub ends : i + length (formIn (suc g) x) ≡ at + length (form v)
+  pub ends : putEnd (formIn (suc g) x) d i ≡ putEnd (form v) d₀ at
   pub left : sets d i (formIn (suc g) x) ≡ sets d₀ at (form v)
 
-module _ (d₀ : List ℕ) (at v : ℕ) where
-  -- before the first group
-  pub begin : v < 2 ^ 64 → Left d₀ at v d₀ at v
-  unfolding form
-  begin h = record { g = 9; small = omega arith; same = refl; ends = refl; left = refl }
+-- before the first group
+pub begin : (d : List ℕ) (at v : ℕ) → v < 2 ^ 64 → Left d at v d at v
+unfolding form
+begin d at v h = record { g = 9; small = omega arith; same = refl; ends = refl; left = refl }
 
-module _ (d₀ : List ℕ) (at v : ℕ) (d : List ℕ) (i x : ℕ) where
+module _ {d₀ : List ℕ} {at v : ℕ} {d : List ℕ} {i x : ℕ} (l : Left d₀ at v d i x) where
   -- after one group of several
-  pub more : 128 ≤ x → Left d₀ at v d i x → Left d₀ at v (set d i (x % 128 + 128)) (i + 1) (x / 128)
-  more h l = go (l .g) (l .small) (l .ends) (l .left)
+  pub more : i < length d → 128 ≤ x → Left d₀ at v (set d i (x % 128 + 128)) (i + 1) (x / 128)
+  more r h = go (l .g) (l .small) (l .ends) (l .left)
     where
-      go : (g : ℕ) → x < 128 ^ suc g → i + length (formIn (suc g) x) ≡ at + length (form v) → sets d i (formIn (suc g) x) ≡ sets d₀ at (form v) → Left d₀ at v (set d i (x % 128 + 128)) (i + 1) (x / 128)
+      go : (g : ℕ) → x < 128 ^ suc g → putEnd (formIn (suc g) x) d i ≡ putEnd (form v) d₀ at → sets d i (formIn (suc g) x) ≡ sets d₀ at (form v) → Left d₀ at v (set d i (x % 128 + 128)) (i + 1) (x / 128)
       go zero s e f = absurd (omega arith)
       go (suc g) s e f = record {
         g = g;
         small = less (suc g) x s;
         same = length-set d i (x % 128 + 128) ∙ l .same;
-        ends = let q = rw (form-more (suc g) x h) at e in omega arith;
+        ends = end-cons (x % 128 + 128) (formIn (suc g) (x / 128)) d i r ∙ rw (form-more (suc g) x h) at e;
         left = rw (add-one i) (rw (form-more (suc g) x h) at f);
       }
 
-  -- there is a place for the group
-  pub room : Left d₀ at v d i x → at + length (form v) ≤ length d₀ → i < length d
-  room l h = omega (arith, form-in-some (l .g) x)
-
-  -- ten groups at most are written
-  pub few : Left d₀ at v d i x → i ≤ at + 10
-  unfolding form
-  few l = omega (arith, form-in-most 10 v)
-
   -- after the last group
-  pub last : x < 128 → Left d₀ at v d i x → (i + 1 ≡ at + length (form v)) × (set d i x ≡ sets d₀ at (form v))
-  last h l = (rw (form-last (l .g) x h) at (l .ends), rw (form-last (l .g) x h) at (l .left))
+  pub last : i < length d → x < 128 → Ends (form v) d₀ at (i + 1) (set d i x)
+  unfolding putEnd
+  last r h = (let q = rw (form-last (l .g) x h) at (l .ends) in omega arith, rw (form-last (l .g) x h) at (l .left))
+
+  -- where the buffer ends
+  pub full : length d ≤ i → Ends (form v) d₀ at i d
+  unfolding putEnd
+  full h = (omega (arith, l .ends), sym (sets-out (formIn (suc (l .g)) x) d i h) ∙ l .left)

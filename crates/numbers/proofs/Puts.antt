@@ -16,6 +16,7 @@ use Rattle.numbers.specs.declared.Refusal.{Refusal}
 use Rattle.numbers.specs.declared.Written.{Written}
 use Rattle.numbers.specs.declared.Written.the-variants as written
 use Rattle.numbers.specs.Coding.{refusedWrite, putNo, putAnswer, afterPut, writtenNo}
+use Rattle.numbers.proofs.Ends.{Ends, end-fits}
 
 -- a place and a refusal are not the same
 pub refused-next : {r : Refusal} {n : ℕ} → written.Refused r ≡ written.Next n → ⊥
@@ -47,6 +48,12 @@ module _ (n : ℕ) (bytes d : List ℕ) (at : ℕ) where
   pub wrote : n ≡ 0 → at + length bytes ≤ length d → Puts n bytes d at (written.Next (at + length bytes)) (sets d at bytes)
   unfolding putNo putAnswer afterPut
   wrote e h = (rw (e, le-leb (at + length bytes) (length d) h), rw (e, le-leb (at + length bytes) (length d) h), rw (e, le-leb (at + length bytes) (length d) h))
+
+  -- they have been put
+  pub put-wrote : {m : ℕ} {e : List ℕ} → n ≡ 0 → at + length bytes ≤ length d → Ends bytes d at m e → Puts n bytes d at (written.Next m) e
+  put-wrote z h p =
+      let w = wrote z h in
+      (ap written.Next (p .0 ∙ end-fits bytes d at h) ∙ w .0, p .1 ∙ w .1, w .2)
 
   -- the answers, each with what leads to it
   pub data Answer : Type 0 where

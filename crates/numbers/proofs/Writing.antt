@@ -3,11 +3,11 @@ use mathlib.Core.List.{List}
 use Prim.Native.Nat.{ℕ, _+_, _<_, _≤_}
 use native.Mathlib.Omega.{arith}
 use lib.ListN.{length}
-use lib.Seq.{sets}
 use Rattle.numbers.specs.declared.Limit.{Limit}
 use Rattle.numbers.specs.declared.Written.the-variants as written
 use Rattle.numbers.specs.Coding.{mostOf, form, limitNo, refusedWrite}
 use Rattle.numbers.proofs.CodingLaws.{limit-within, limit-above}
+use Rattle.numbers.proofs.Ends.{Ends}
 use Rattle.numbers.proofs.Puts as put
 use Rattle.numbers.proofs.Puts.{Puts}
 
@@ -21,5 +21,5 @@ module _ (limit : Limit) (v : ℕ) (d : List ℕ) (at : ℕ) where
   no-room h l = put.no-room (limitNo limit v) (form v) d at (limit-within limit v h) l
 
   -- the form is written
-  pub wrote : v ≤ mostOf limit → at + length (form v) ≤ length d → Puts (limitNo limit v) (form v) d at (written.Next (at + length (form v))) (sets d at (form v))
-  wrote h l = put.wrote (limitNo limit v) (form v) d at (limit-within limit v h) l
+  pub wrote : {m : ℕ} {e : List ℕ} → v ≤ mostOf limit → at + length (form v) ≤ length d → Ends (form v) d at m e → Puts (limitNo limit v) (form v) d at (written.Next m) e
+  wrote h l p = put.put-wrote (limitNo limit v) (form v) d at (limit-within limit v h) l p

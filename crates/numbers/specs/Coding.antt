@@ -1,7 +1,7 @@
 -- The number coding of document 01, "Written forms".
 use mathlib.Core.Bool.{Bool, true, false, _&&_}
 use mathlib.Core.List.{List, [], _∷_}
-use Prim.Native.Nat.{ℕ, zero, suc, _+_, _-_, _*_, _/_, _%_, _^_}
+use Prim.Native.Nat.{ℕ, zero, suc, _+_, _-_, _*_, _/_, _%_, _^_, min}
 use lib.Dec.{eqb, ltb, leb}
 use lib.ListN.{length, drop}
 use lib.Seq.{sets}
@@ -61,6 +61,10 @@ unfoldable pub form : ℕ → List ℕ
 form v = formIn 10 v
 
 -- ---- writing into a buffer
+
+-- bytes put at a place of a buffer, those left out that would stand past its end: the place after those that are put
+unfoldable pub putEnd : List ℕ → List ℕ → ℕ → ℕ
+putEnd bytes buffer at = at + min (length bytes) (length buffer - at)
 
 -- bytes at a place of a buffer: the refusal n where there is one, then 8 unless the bytes fit
 unfoldable pub putNo : ℕ → List ℕ → List ℕ → ℕ → ℕ

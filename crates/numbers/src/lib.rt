@@ -5,7 +5,7 @@ ghost use mathlib.Core.Bool.{false};
 ghost use lib.Dec.{ltb};
 ghost use lib.ListN.{length, drop};
 ghost use lib.Seq.{sets};
-ghost use Rattle.numbers.specs.Coding.{groupsOf, mostOf, lastGroup, groupsFrom, readNumber, form, numberWritten, afterNumber, numberWrittenNo, writtenNo};
+ghost use Rattle.numbers.specs.Coding.{groupsOf, mostOf, lastGroup, groupsFrom, readNumber, form, putEnd, numberWritten, afterNumber, numberWrittenNo, writtenNo};
 
 // How large a number may be: as a schedule has it, or as a scan table has it.
 pub enum Limit {
@@ -101,34 +101,31 @@ pub fn read_number(bytes: &[u8], at: usize, limit: Limit) -> Read
     read_groups(bytes, at, limit.groups(), limit.most())
 }
 
-// How many bytes the shortest form of a number takes.
+// How many bytes the shortest form of a number takes: one for every seven bits of its length. 0 has the length of 1.
 pub fn width(value: u64) -> usize
     ensures { λ r. ⌜ r ≡ length (form value) ⌝ }
 {
-    let mut n: usize = 1;
-    let mut left = value;
-    while 128 <= left {
-        left = left / 128;
-        n += 1;
-    }
-    n
+    let bits = 64 - u64::leading_zeros(value / 2 * 2 + 1);
+    ((bits + 6) / 7) as usize
 }
 
-// Writes the shortest form of a number at a place that has room for it, and gives the place after it.
-fn put(buffer: &mut [u8], at: usize, value: u64) -> usize
-    requires { ⌜ at + length (form value) ≤ length (now buffer) ⌝ }
-    ensures { λ r. ⌜ (r ≡ at + length (form value))
+// Puts the shortest form of a number at a place, and gives the place after it. What would stand past the buffer's end is left out.
+pub fn put_number(buffer: &mut [u8], at: usize, value: u64) -> usize
+    ensures { λ r. ⌜ (r ≡ putEnd (form value) (now (buffer .entry)) at)
         × (now (buffer .exit) ≡ sets (now (buffer .entry)) at (form value)) ⌝ }
 {
     let mut i = at;
     let mut rest = value;
-    while 128 <= rest {
+    while i < buffer.len() {
+        if rest < 128 {
+            buffer[i] = rest as u8;
+            return i + 1;
+        }
         buffer[i] = (rest % 128 + 128) as u8;
         rest = rest / 128;
         i += 1;
     }
-    buffer[i] = rest as u8;
-    i + 1
+    i
 }
 
 // Writes the shortest form of a number at a place; 12 where the number is above the limit, 8 where there is no room, and then no byte changes.
@@ -148,5 +145,5 @@ pub fn write_number(buffer: &mut [u8], at: usize, value: u64, limit: Limit) -> W
     if room - n < at {
         return Written::Refused(Refusal { no: 8 });
     }
-    Written::Next(put(buffer, at, value))
+    Written::Next(put_number(buffer, at, value))
 }

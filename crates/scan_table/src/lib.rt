@@ -329,6 +329,6 @@ pub fn write_table(buffer: &mut [u8], fields: &[u64]) -> Written
     if !forms::fit_in(fields, length - first) {
         return Written::Refused(Refusal { no: 8 });
     }
-    numbers::write_number(buffer, 0, scans, Limit::Table);
-    forms::write_numbers(buffer, first, fields, Limit::Table)
+    let at = numbers::put_number(buffer, 0, scans);
+    Written::Next(forms::put_numbers(buffer, at, fields))
 }

@@ -1,25 +1,22 @@
 -- The answers of the reader and of the writer, each with the room or the buffer after it. Assumes nothing.
-use mathlib.Core.Path.{_≡_, refl, sym, ap, _∙_}
+use mathlib.Core.Path.{_≡_, refl, ap, _∙_}
 use mathlib.Core.List.{List}
 use Prim.Native.Nat.{ℕ, _+_, _≤_, _<_}
 use native.Mathlib.Omega.{arith}
 use lib.ListN.{length, length-append}
-use lib.Seq.{sets, length-sets}
+use lib.Seq.{sets}
 use Rattle.sizes.specs.declared.Sizes.{Sizes}
 use Rattle.numbers.specs.Coding.{refusedWrite}
-use Rattle.numbers.specs.declared.Limit.the-variants as limit
 use Rattle.numbers.specs.declared.Refusal.{Refusal}
 use Rattle.numbers.specs.declared.Written.the-variants as written
-use Rattle.numbers.proofs.Puts.{Puts, no-room, wrote}
-use Rattle.forms.specs.Forms.{FormRead, readAs, unread, formNo, roomNo, intoRoom, afterRoom, forms, numbersWritten, afterNumbers}
+use Rattle.numbers.proofs.Ends.{Ends, ends-append}
+use Rattle.numbers.proofs.Puts.{Puts, no-room, put-wrote}
+use Rattle.forms.specs.Forms.{FormRead, readAs, unread, formNo, roomNo, intoRoom, afterRoom, forms}
 use Rattle.forms.proofs.Rooms.{Fills, form-refused, room-short, room-enough}
-use Rattle.forms.proofs.Steps.{sets-append}
-use Rattle.forms.proofs.Writing as all
-use Rattle.schedule.specs.Schedule.{numbersOf, scheduleAnswer, headerFor, scheduleNo, scheduleForm, scheduleWritten, afterSchedule, scheduleReadNo}
+use Rattle.schedule.specs.Schedule.{numbersOf, scheduleAnswer, headerFor, scheduleNo, scheduleForm, scheduleReadNo}
 use Rattle.schedule.specs.declared.Header.{Header}
 use Rattle.schedule.specs.declared.ScheduleRead.{ScheduleRead}
 use Rattle.schedule.specs.declared.ScheduleRead.the-variants as schedule
-use Rattle.schedule.proofs.Valid.{six-within, no-valid}
 
 -- ---- reading
 
@@ -67,18 +64,8 @@ module _ (z : Sizes) (fields d : List ℕ) where
   pub short : scheduleNo z fields ≡ 0 → length d < length (scheduleForm z fields) → Puts (scheduleNo z fields) (scheduleForm z fields) d 0 (refusedWrite 8) d
   short h l = no-room (scheduleNo z fields) (scheduleForm z fields) d 0 h (omega arith)
 
-  -- the six are written and then the events
-  pub both : (first : ℕ) → first ≡ length (forms (numbersOf (headerFor z fields))) → scheduleNo z fields ≡ 0 → length (scheduleForm z fields) ≤ length d
-      → let b = afterNumbers limit.Schedule (numbersOf (headerFor z fields)) d 0 in
-      (numbersWritten limit.Schedule fields b first ≡ scheduleWritten z fields d) × (afterNumbers limit.Schedule fields b first ≡ afterSchedule z fields d)
+  -- the six are put and then the events
+  pub both : {m n : ℕ} {b e : List ℕ} → scheduleNo z fields ≡ 0 → length (scheduleForm z fields) ≤ length d
+      → Ends (forms (numbersOf (headerFor z fields))) d 0 m b → Ends (forms fields) b m n e → Puts (scheduleNo z fields) (scheduleForm z fields) d 0 (written.Next n) e
   unfolding scheduleForm
-  both first p h l =
-      let six = numbersOf (headerFor z fields) in
-      let v = no-valid z fields h in
-      let size = form-length z fields in
-      let a = all.wrote limit.Schedule six d 0 (six-within (headerFor z fields) (v .header)) (omega (arith, size)) .1 in
-      let b = all.wrote limit.Schedule fields (sets d 0 (forms six)) first (v .within) (omega (arith, size, length-sets d 0 (forms six))) in
-      let w = wrote (scheduleNo z fields) (scheduleForm z fields) d 0 h (omega arith) in
-      let q : first + length (forms fields) ≡ 0 + length (scheduleForm z fields) = omega (arith, size) in
-      let k : first ≡ 0 + length (forms six) = omega arith in
-      rw (← a) (sym (b .0) ∙ ap written.Next q ∙ w .0, sym (b .1) ∙ rw k (sym (sets-append (forms six) (forms fields) d 0)) ∙ w .1)
+  both h l p q = put-wrote (scheduleNo z fields) (scheduleForm z fields) d 0 h (omega arith) (ends-append (forms (numbersOf (headerFor z fields))) (forms fields) d 0 p q)

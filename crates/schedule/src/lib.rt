@@ -199,6 +199,6 @@ pub fn write_schedule(buffer: &mut [u8], sizes: Sizes, fields: &[u64]) -> Writte
         return Written::Refused(Refusal { no: 8 });
     }
     let six = numbers_of(header);
-    forms::write_numbers(buffer, 0, &six, Limit::Schedule);
-    forms::write_numbers(buffer, first, fields, Limit::Schedule)
+    let at = forms::put_numbers(buffer, 0, &six);
+    Written::Next(forms::put_numbers(buffer, at, fields))
 }

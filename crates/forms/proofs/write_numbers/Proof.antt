@@ -1,12 +1,11 @@
 -- `forms::write_numbers` meets its contract: the tests lead to the three answers of a writer of numbers. Assumes nothing.
-use mathlib.Core.Path.{_≡_, sym, ap, _∙_}
+use mathlib.Core.Path.{_≡_, sym, _∙_}
 use mathlib.Core.Bool.{true}
 use Prim.Native.Nat.{_+_, _≤_, _-_}
 use native.Mathlib.Omega.{arith}
 use lib.ListN.{length}
 use borrow.Author.Needs.{needs}
 use borrow.Author.Tests.{leb-true, leb-false, not-true, not-false}
-use Rattle.numbers.specs.declared.Written.the-variants as written
 use Rattle.forms.specs.Forms.{forms, allWithin}
 use Rattle.forms.proofs.Writing.{too-large, no-room, wrote}
 use Rattle.forms.proofs.write_numbers.Statement.{statement}
@@ -44,7 +43,7 @@ ready c =
     (sym (c .before .before .before .before .before .all-within .ensures) ∙ not-false _ (c .before .before .before .before .if1 .left), omega arith)
 
 put-numbers-requires : tie.Need-put-numbers-requires
-put-numbers-requires c κs = ready c
+put-numbers-requires c κs = search needs
 
 same-length : tie.Need-same-length
 same-length c = search needs
@@ -53,8 +52,7 @@ returns-4 : tie.Need-returns-4
 returns-4 c =
     let a = c .before .before .before .before .before .before .before .before .before .before .before .args in
     let r = ready (c .before .before .before) in
-    let w = wrote (a .limit) (a .values .now) (a .buffer .now) (a .at) (r .0) (r .1) in
-    (ap written.Next (c .before .before .put-numbers .ensures .0) ∙ w .0, c .before .before .put-numbers .ensures .1 ∙ w .1, w .2)
+    wrote (a .limit) (a .values .now) (a .buffer .now) (a .at) (r .0) (r .1) (c .before .before .put-numbers .ensures)
 
 pub write-numbers-spec : {M : Type 1} → statement M
 write-numbers-spec =

@@ -1,8 +1,6 @@
 -- `numbers::write_number` meets its contract: the tests lead to the three answers of a writer. Assumes nothing.
-use mathlib.Core.Path.{ap, _∙_}
 use native.Mathlib.Omega.{arith}
 use borrow.Author.Needs.{needs}
-use Rattle.numbers.specs.declared.Written.the-variants as written
 use Rattle.numbers.proofs.Writing.{too-large, no-room, wrote}
 use Rattle.numbers.proofs.write_number.Statement.{statement}
 use Rattle.numbers.proofs.write_number.Tie as tie
@@ -28,8 +26,8 @@ returns-3 c =
     let a = c .before .before .before .before .before .before .args in
     no-room (a .limit) (a .value) (a .buffer .now) (a .at) (omega arith) (omega arith)
 
-put-requires : tie.Need-put-requires
-put-requires c κs = search needs
+put-number-requires : tie.Need-put-number-requires
+put-number-requires c κs = search needs
 
 same-length : tie.Need-same-length
 same-length c = search needs
@@ -37,8 +35,7 @@ same-length c = search needs
 returns-4 : tie.Need-returns-4
 returns-4 c =
     let a = c .before .before .before .before .before .before .before .before .before .before .args in
-    let w = wrote (a .limit) (a .value) (a .buffer .now) (a .at) (omega arith) (omega arith) in
-    (ap written.Next (c .before .before .put .ensures .0) ∙ w .0, c .before .before .put .ensures .1 ∙ w .1, w .2)
+    wrote (a .limit) (a .value) (a .buffer .now) (a .at) (omega arith) (omega arith) (c .before .before .put-number .ensures)
 
 pub write-number-spec : {M : Type 1} → statement M
 write-number-spec =
@@ -49,6 +46,6 @@ write-number-spec =
     width-requires
     returns-2
     returns-3
-    put-requires
+    put-number-requires
     same-length
     returns-4)

@@ -1,13 +1,11 @@
 -- `scan_table::write_table` meets its contract: the tests lead to the three answers of a writer of tables. Assumes nothing.
-use mathlib.Core.Path.{_≡_, sym, ap, _∙_}
+use mathlib.Core.Path.{sym, ap, _∙_}
 use native.Mathlib.Omega.{arith}
 use lib.ListN.{length}
 use Prim.Native.Nat.{_-_}
 use borrow.Author.Tests.{leb-true, leb-false, not-true, not-false}
-use Rattle.numbers.specs.Coding.{refusedWrite, writtenNo}
+use Rattle.numbers.specs.Coding.{refusedWrite}
 use Rattle.forms.specs.Forms.{forms}
-use Rattle.numbers.proofs.Puts.{put-number}
-use Rattle.scan_table.specs.Table.{tableNo, writtenTests, tableForm, tableWritten}
 use Rattle.scan_table.proofs.Writing.{form-length, table-refused, table-short, wrote-both}
 use borrow.Author.Needs.{needs}
 use Rattle.scan_table.proofs.write_table.Statement.{statement}
@@ -41,11 +39,11 @@ returns-3 c =
     let f = leb-false (length (forms (a .fields .now))) (length (a .buffer .now) - n) (sym (c .before .fit-in .ensures) ∙ not-true _ (c .if3 .taken)) in
     table-short (a .fields .now) (a .buffer .now) (sym (c .before .before .before .before .before .table-no .ensures) ∙ c .before .before .before .before .if1 .left) (omega (arith, c .before .before .before .width .ensures, form-length (a .fields .now)))
 
-write-number-requires : tie.Need-write-number-requires
-write-number-requires c κs = search needs
+put-number-requires : tie.Need-put-number-requires
+put-number-requires c κs = search needs
 
-write-numbers-requires : tie.Need-write-numbers-requires
-write-numbers-requires c κs = search needs
+put-numbers-requires : tie.Need-put-numbers-requires
+put-numbers-requires c κs = search needs
 
 same-length : tie.Need-same-length
 same-length c = search needs
@@ -56,11 +54,8 @@ returns-4 c =
     let a = t .before .before .before .before .before .before .before .before .args in
     let n = t .before .before .before .width in
     let f = leb-true (length (forms (a .fields .now))) (length (a .buffer .now) - n .result) (sym (t .before .fit-in .ensures) ∙ not-false _ (t .if3 .left)) in
-    let w = wrote-both (a .fields .now) (a .buffer .now) (sym (t .before .before .before .before .before .table-no .ensures) ∙ t .before .before .before .before .if1 .left) (omega (arith, n .ensures, form-length (a .fields .now))) in
-    let one = c .before .before .before .before .before .before .write-number .ensures .1 in
-    let two = c .before .before .write-numbers .ensures in
-    let q : c .before .before .write-numbers .result ≡ tableWritten (a .fields .now) (a .buffer .now) = two .0 ∙ rw (one, n .ensures) (w .0) in
-    (q, two .1 ∙ rw (one, n .ensures) (w .1), ap writtenNo q ∙ put-number (tableNo writtenTests (a .fields .now)) (tableForm (a .fields .now)) (a .buffer .now) 0)
+    let z = sym (t .before .before .before .before .before .table-no .ensures) ∙ t .before .before .before .before .if1 .left in
+    wrote-both (a .fields .now) (a .buffer .now) z (omega (arith, n .ensures, form-length (a .fields .now))) (c .before .before .before .before .before .before .put-number .ensures) (c .before .before .put-numbers .ensures)
 
 pub write-table-spec : {M : Type 1} → statement M
 write-table-spec =
@@ -72,7 +67,7 @@ write-table-spec =
     returns-2
     fit-in-requires
     returns-3
-    write-number-requires
-    write-numbers-requires
+    put-number-requires
+    put-numbers-requires
     same-length
     returns-4)

@@ -1,15 +1,15 @@
 -- `schedule::write_schedule` meets its contract: the tests lead to the answers of the writer, and the six are written and then the events. Assumes
 -- nothing.
-use mathlib.Core.Path.{_≡_, sym, ap, _∙_}
+use mathlib.Core.Path.{sym, ap, _∙_}
 use Prim.Native.Nat.{_-_}
 use native.Mathlib.Omega.{arith}
 use lib.ListN.{length}
 use borrow.Author.Needs.{needs}
 use borrow.Author.Tests.{leb-true, leb-false, not-true, not-false}
 use Rattle.forms.specs.Forms.{forms}
-use Rattle.numbers.specs.Coding.{refusedWrite, writtenNo}
-use Rattle.numbers.proofs.Puts.{refuses, put-number}
-use Rattle.schedule.specs.Schedule.{scheduleNo, scheduleForm, scheduleWritten}
+use Rattle.numbers.specs.Coding.{refusedWrite}
+use Rattle.numbers.proofs.Puts.{refuses}
+use Rattle.schedule.specs.Schedule.{scheduleNo, scheduleForm}
 use Rattle.schedule.proofs.Valid.{no-valid}
 use Rattle.schedule.proofs.Answers.{short, form-length, both}
 use Rattle.schedule.proofs.write_schedule.Statement.{statement}
@@ -25,8 +25,8 @@ returns c =
     let w = refuses (scheduleNo (a .sizes) (a .fields .now)) (scheduleForm (a .sizes) (a .fields .now)) (a .buffer .now) 0 (λ z. c .if1 .taken (n ∙ z)) in
     (ap refusedWrite n ∙ w .0, w .1, n ∙ w .2)
 
-cast-t13 : tie.Need-cast-t13
-cast-t13 c =
+cast-t14 : tie.Need-cast-t14
+cast-t14 c =
     let a = c .before .before .before .before .args in
     omega (arith, no-valid (a .sizes) (a .fields .now) (sym (c .before .schedule-no .ensures) ∙ c .if1 .left) .header .count)
 
@@ -54,14 +54,14 @@ returns-3 c =
 numbers-of-requires : tie.Need-numbers-of-requires
 numbers-of-requires c κs = search needs
 
-slice-aggregate-write-numbers : tie.Need-slice-aggregate-write-numbers
-slice-aggregate-write-numbers c = search needs
+slice-aggregate-put-numbers : tie.Need-slice-aggregate-put-numbers
+slice-aggregate-put-numbers c = search needs
 
-write-numbers-requires : tie.Need-write-numbers-requires
-write-numbers-requires c κs = search needs
+put-numbers-requires : tie.Need-put-numbers-requires
+put-numbers-requires c κs = search needs
 
-write-numbers-requires-2 : tie.Need-write-numbers-requires-2
-write-numbers-requires-2 c κs = search needs
+put-numbers-requires-2 : tie.Need-put-numbers-requires-2
+put-numbers-requires-2 c κs = search needs
 
 same-length : tie.Need-same-length
 same-length c = search needs
@@ -73,12 +73,8 @@ returns-4 c =
     let l = form-length (a .sizes) (a .fields .now) in
     let first = c .before .before .before .before .before .before .before .before .before .before .before .before .before .header-width .result in
     let f = leb-true (length (forms (a .fields .now))) (length (a .buffer .now) - first) (sym (c .before .before .before .before .before .before .before .before .before .before .before .fit-in .ensures) ∙ not-false _ (c .before .before .before .before .before .before .before .before .before .before .if3 .left)) in
-    let w = both (a .sizes) (a .fields .now) (a .buffer .now) first (c .before .before .before .before .before .before .before .before .before .before .before .before .before .header-width .ensures) n (omega (arith, l)) in
     let six = c .before .before .before .before .before .before .before .before .before .numbers-of .ensures in
-    let one = c .before .before .before .before .before .before .write-numbers .ensures .1 in
-    let two = c .before .before .write-numbers2 .ensures in
-    let q : c .before .before .write-numbers2 .result ≡ scheduleWritten (a .sizes) (a .fields .now) (a .buffer .now) = two .0 ∙ rw (one, six) (w .0) in
-    (q, two .1 ∙ rw (one, six) (w .1), ap writtenNo q ∙ put-number (scheduleNo (a .sizes) (a .fields .now)) (scheduleForm (a .sizes) (a .fields .now)) (a .buffer .now) 0)
+    both (a .sizes) (a .fields .now) (a .buffer .now) n (omega (arith, l)) (rw six at (c .before .before .before .before .before .before .put-numbers .ensures)) (c .before .before .put-numbers2 .ensures)
 
 pub write-schedule-spec : {M : Type 1} → statement M
 write-schedule-spec =
@@ -86,14 +82,14 @@ write-schedule-spec =
     (tie.spec
     schedule-no-requires
     returns
-    cast-t13
+    cast-t14
     header-width-requires
     returns-2
     fit-in-requires
     returns-3
     numbers-of-requires
-    slice-aggregate-write-numbers
-    write-numbers-requires
-    write-numbers-requires-2
+    slice-aggregate-put-numbers
+    put-numbers-requires
+    put-numbers-requires-2
     same-length
     returns-4)

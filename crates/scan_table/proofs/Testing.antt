@@ -2,9 +2,8 @@
 use mathlib.Core.Path.{_≡_, refl, sym, ap, _∙_}
 use mathlib.Core.Bool.{Bool, true, false}
 use mathlib.Core.List.{List, [], _∷_, _++_}
-use Prim.Native.Nat.{ℕ, zero, suc, _+_, _-_, _*_, _%_, _<_, _≤_}
+use Prim.Native.Nat.{ℕ, zero, suc, _+_, _-_, _*_, _/_, _%_, _<_, _≤_}
 use native.Mathlib.Omega.{arith}
-use native.Mathlib.Numerals.{add-one}
 use lib.Dec.{eqb, leb}
 use lib.ListN.{length, drop, getD}
 use lib.Seq.{drop-cons}
@@ -65,15 +64,17 @@ four-tests false = refl
 drop-next : (l : List ℕ) (i m : ℕ) → m ≡ suc i → i < length l → drop i l ≡ getD l i 0 ∷ drop m l
 drop-next l i m e h = rw e (drop-cons l i 0 h)
 
+-- the scan whose numbers begin at a place
+abbrev pub scanFrom : List ℕ → ℕ → Scan
+scanFrom fields n = record { tag = getD fields n 0; shelf = getD fields (n + 1) 0; device = getD fields (n + 2) 0; time = getD fields (n + 3) 0 }
+
 -- the numbers of a scan, and then those of the scans after it
-scan-split : (fields : List ℕ) (i : ℕ) → i * 4 + 4 ≤ length fields → drop (i * 4) fields ≡ fieldsOf (scanAt fields i) ++ drop (suc i * 4) fields
-unfolding scanAt
-scan-split fields i h =
-    let n = i * 4 in
+scan-split : (fields : List ℕ) (n : ℕ) → n + 4 ≤ length fields → drop n fields ≡ fieldsOf (scanFrom fields n) ++ drop (n + 4) fields
+scan-split fields n h =
     let a = drop-next fields n (n + 1) (omega arith) (omega arith) in
     let b = drop-next fields (n + 1) (n + 2) (omega arith) (omega arith) in
     let c = drop-next fields (n + 2) (n + 3) (omega arith) (omega arith) in
-    let d = drop-next fields (n + 3) (suc i * 4) (omega arith) (omega arith) in
+    let d = drop-next fields (n + 3) (n + 4) (omega arith) (omega arith) in
     rw (a, b, c, d)
 
 -- the tests of a row do not see what stands after it
@@ -83,51 +84,55 @@ row-alone [] vs rest h = refl
 row-alone (t ∷ ts) [] rest h = absurd (omega arith)
 row-alone (t ∷ ts) (v ∷ vs) rest h = ap (λ (x : ℕ). refusal (t v) ⨾ x) (row-alone ts vs rest (omega arith))
 
+-- the first refusal of the scans from a place on
+abbrev pub restNo : List Test → List ℕ → ℕ → ℕ
+restNo tests fields n = rowsNo ((length fields - n) / 4) tests (drop n fields)
+
 module _ (tests : List Test) (four : length tests ≡ 4) (fields : List ℕ) where
   -- the first refusal of rows: that of the first scan, or of the scans after it
-  rows-scan : (n i : ℕ) → i * 4 + 4 ≤ length fields
-      → rowsNo (suc n) tests (drop (i * 4) fields) ≡ (refusal (rowNo tests (fieldsOf (scanAt fields i))) ⨾ rowsNo n tests (drop (suc i * 4) fields))
+  rows-scan : (m n : ℕ) → n + 4 ≤ length fields
+      → rowsNo (suc m) tests (drop n fields) ≡ (refusal (rowNo tests (fieldsOf (scanFrom fields n))) ⨾ rowsNo m tests (drop (n + 4) fields))
   unfolding rowsNo
-  rows-scan n i h =
-      let s = scanAt fields i in
-      let rest = drop (suc i * 4) fields in
+  rows-scan m n h =
+      let s = scanFrom fields n in
+      let rest = drop (n + 4) fields in
       let few : length tests ≤ 4 = omega (arith, four) in
-      rw (scan-split fields i h, row-alone tests (fieldsOf s) rest few, four)
+      rw (scan-split fields n h, row-alone tests (fieldsOf s) rest few, four)
 
   -- a scan that passes is one less to test
-  pub scans-next : (n i : ℕ) → i < n → n * 4 ≤ length fields → rowNo tests (fieldsOf (scanAt fields i)) ≡ 0
-      → rowsNo (n - i) tests (drop (i * 4) fields) ≡ rowsNo (n - (i + 1)) tests (drop ((i + 1) * 4) fields)
-  scans-next n i h l e =
-      let q : n - i ≡ suc (n - (i + 1)) = omega arith in
-      rw q (rows-scan (n - (i + 1)) i (omega arith) ∙ rw (e, add-one i))
+  pub scans-next : (n : ℕ) → n < length fields → n % 4 ≡ 0 → length fields % 4 ≡ 0 → rowNo tests (fieldsOf (scanFrom fields n)) ≡ 0 → restNo tests fields n ≡ restNo tests fields (n + 4)
+  scans-next n h a l e =
+      let q : (length fields - n) / 4 ≡ suc ((length fields - (n + 4)) / 4) = omega arith in
+      rw q (rows-scan ((length fields - (n + 4)) / 4) n (omega arith) ∙ rw e)
 
   -- the first refusal of a scan is the table's
-  pub scans-refused : (n i : ℕ) → i < n → n * 4 ≤ length fields → (rowNo tests (fieldsOf (scanAt fields i)) ≡ 0 → ⊥)
-      → rowsNo (n - i) tests (drop (i * 4) fields) ≡ rowNo tests (fieldsOf (scanAt fields i))
-  scans-refused n i h l e =
-      let m = n - (i + 1) in
-      let q : n - i ≡ suc m = omega arith in
-      rw q (rows-scan m i (omega arith) ∙ stands (rowNo tests (fieldsOf (scanAt fields i))) (rowsNo m tests (drop (suc i * 4) fields)) e)
+  pub scans-refused : (n : ℕ) → n < length fields → n % 4 ≡ 0 → length fields % 4 ≡ 0 → (rowNo tests (fieldsOf (scanFrom fields n)) ≡ 0 → ⊥) → restNo tests fields n ≡ rowNo tests (fieldsOf (scanFrom fields n))
+  scans-refused n h a l e =
+      let m = (length fields - (n + 4)) / 4 in
+      let q : (length fields - n) / 4 ≡ suc m = omega arith in
+      rw q (rows-scan m n (omega arith) ∙ stands (rowNo tests (fieldsOf (scanFrom fields n))) (rowsNo m tests (drop (n + 4) fields)) e)
 
   -- none is left to test
-  pub scans-none : (n i : ℕ) → n ≤ i → rowsNo (n - i) tests (drop (i * 4) fields) ≡ 0
+  pub scans-none : (n : ℕ) → length fields ≤ n → restNo tests fields n ≡ 0
   unfolding rowsNo
-  scans-none n i h =
-      let q : n - i ≡ 0 = omega arith in
+  scans-none n h =
+      let q : (length fields - n) / 4 ≡ 0 = omega arith in
       rw q
 
   -- where rows pass, each of their scans does
   pub each-scan : (n i k : ℕ) → (i + n) * 4 ≤ length fields → rowsNo n tests (drop (i * 4) fields) ≡ 0 → k < n → rowNo tests (fieldsOf (scanAt fields (i + k))) ≡ 0
+  unfolding scanAt
   each-scan zero i k h e l = absurd (omega arith)
   each-scan (suc n) i zero h e l =
       let z : i + 0 ≡ i = omega arith in
-      let a = rowNo tests (fieldsOf (scanAt fields i)) in
-      rw z (no-refusal a (rowsNo n tests (drop (suc i * 4) fields)) (sym (rows-scan n i (omega arith)) ∙ e))
+      let a = rowNo tests (fieldsOf (scanFrom fields (i * 4))) in
+      rw z (no-refusal a (rowsNo n tests (drop (i * 4 + 4) fields)) (sym (rows-scan n (i * 4) (omega arith)) ∙ e))
   each-scan (suc n) i (suc k) h e l =
       let z : i + suc k ≡ suc i + k = omega arith in
-      let a = rowNo tests (fieldsOf (scanAt fields i)) in
-      let r = rest-unrefused a (rowsNo n tests (drop (suc i * 4) fields)) (sym (rows-scan n i (omega arith)) ∙ e) in
-      rw z (each-scan n (suc i) k (omega arith) r (omega arith))
+      let q : i * 4 + 4 ≡ suc i * 4 = omega arith in
+      let a = rowNo tests (fieldsOf (scanFrom fields (i * 4))) in
+      let r = rest-unrefused a (rowsNo n tests (drop (i * 4 + 4) fields)) (sym (rows-scan n (i * 4) (omega arith)) ∙ e) in
+      rw z (each-scan n (suc i) k (omega arith) (rw q at r) (omega arith))
 
 -- ---- a table
 

@@ -1,12 +1,12 @@
 // The scan table's written form: S, then for each of S scans tag, shelf, device and time.
 // In lent room a scan is four numbers in a row: tag, shelf, device, time.
 ghost use mathlib.Core.Path.{_≡_};
-ghost use Prim.Native.Nat.{_*_, _≤_};
+ghost use Prim.Native.Nat.{_%_};
 ghost use lib.ListN.{length, getD};
 ghost use Rattle.numbers.specs.Coding.{limitNo, writtenNo};
 ghost use Rattle.numbers.specs.declared.Limit.the-variants.{Table};
 ghost use Rattle.forms.specs.Forms.{placeOf, row, rows, rowNo, rowsNo, formNo, roomNo, intoRoom, afterRoom};
-ghost use Rattle.scan_table.specs.Table.{tagNo, shelfNo, deviceNo, timeNo, scanTests, writtenTests, testsOf, fieldsOf, scanAt, tableNo, readTable, tableAnswer, tableWritten, afterTable, tableWrittenNo, tableReadNo};
+ghost use Rattle.scan_table.specs.Table.{tagNo, shelfNo, deviceNo, timeNo, scanTests, writtenTests, testsOf, fieldsOf, scanAt, scansIn, tableNo, readTable, tableAnswer, tableWritten, afterTable, tableWrittenNo, tableReadNo};
 ghost use Rattle.scan_table.specs.Steps.{readFrom, valueOf, testedWith};
 use forms::Place;
 use numbers::Limit;
@@ -158,19 +158,24 @@ pub fn scan_at(fields: &[u64], scan: ScanId) -> Scan
     scan_past(fields, scan)
 }
 
-// The first refusal of the first scans of a table's numbers.
-fn scans_no(fields: &[u64], scans: u16, written: bool) -> u8
-    requires { ⌜ scans * 4 ≤ length (now fields) ⌝ }
-    ensures { λ r. ⌜ r ≡ rowsNo scans (testsOf written) (now (fields .entry)) ⌝ }
+// The first refusal of whole scans, four numbers at a time.
+fn scans_no(fields: &[u64], written: bool) -> u8
+    requires { ⌜ length (now fields) % 4 ≡ 0 ⌝ }
+    ensures { λ r. ⌜ r ≡ rowsNo (scansIn (now (fields .entry))) (testsOf written) (now (fields .entry)) ⌝ }
 {
-    let mut i: u16 = 0;
-    while i < scans {
-        let scan = scan_at(fields, ScanId(i));
+    let mut at: usize = 0;
+    while at < fields.len() {
+        let scan = Scan {
+            tag: fields[at],
+            shelf: fields[at + 1],
+            device: fields[at + 2],
+            time: fields[at + 3],
+        };
         let no = scan.tested_no(written);
         if no != 0 {
             return no;
         }
-        i += 1;
+        at += 4;
     }
     0
 }
@@ -182,11 +187,10 @@ pub fn table_no(fields: &[u64], written: bool) -> u8
     if fields.len() % 4 != 0 {
         return 1;
     }
-    let scans = fields.len() / 4;
-    if !sizes::scans_in_range(scans as u64) {
+    if !sizes::scans_in_range((fields.len() / 4) as u64) {
         return 1;
     }
-    scans_no(fields, scans as u16, written)
+    scans_no(fields, written)
 }
 
 // ---- reading

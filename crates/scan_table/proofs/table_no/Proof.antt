@@ -1,9 +1,7 @@
 -- `scan_table::table_no` meets its contract: whole scans, as many as a table may have, and then each of them. Assumes nothing.
 use mathlib.Core.Path.{sym, _∙_}
-use native.Mathlib.Omega.{arith}
 use borrow.Author.Tests.{not-true, not-false}
-use Rattle.scan_table.specs.Table.{scansIn, testsOf}
-use Rattle.sizes.proofs.SizeLaws.{scans-ranged}
+use Rattle.scan_table.specs.Table.{testsOf}
 use Rattle.scan_table.proofs.Testing.{table-uneven, table-unsized, table-whole}
 use borrow.Author.Needs.{needs}
 use Rattle.scan_table.proofs.table_no.Statement.{statement}
@@ -22,9 +20,6 @@ returns-2 c =
     let a = c .before .before .before .before .args in
     sym (table-unsized (testsOf (a .written)) (a .fields .now) (c .before .before .if1 .left) (sym (c .before .scans-in-range .ensures) ∙ not-true _ (c .if2 .taken)))
 
-cast-scans-no : tie.Need-cast-scans-no
-cast-scans-no c = omega (arith, scans-ranged (scansIn (c .before .before .before .before .args .fields .now)) (sym (c .before .scans-in-range .ensures) ∙ not-false _ (c .if2 .left)))
-
 scans-no-requires : tie.Need-scans-no-requires
 scans-no-requires c κs = search needs
 
@@ -36,4 +31,4 @@ returns-3 c =
 pub table-no-spec : {M : Type 1} → statement M
 table-no-spec =
     tie.close
-    (tie.spec returns scans-in-range-requires returns-2 cast-scans-no scans-no-requires returns-3)
+    (tie.spec returns scans-in-range-requires returns-2 scans-no-requires returns-3)

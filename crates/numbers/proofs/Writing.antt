@@ -1,13 +1,14 @@
 -- The three answers of a writer of a number. Assumes nothing.
+use mathlib.Core.Path.{_≡_}
 use mathlib.Core.List.{List}
 use Prim.Native.Nat.{ℕ, _+_, _<_, _≤_}
 use native.Mathlib.Omega.{arith}
 use lib.ListN.{length}
+use lib.Seq.{sets}
 use Rattle.numbers.specs.declared.Limit.{Limit}
 use Rattle.numbers.specs.declared.Written.the-variants as written
 use Rattle.numbers.specs.Coding.{mostOf, form, limitNo, refusedWrite}
 use Rattle.numbers.proofs.CodingLaws.{limit-within, limit-above}
-use Rattle.numbers.proofs.Ends.{Ends}
 use Rattle.numbers.proofs.Puts as put
 use Rattle.numbers.proofs.Puts.{Puts}
 
@@ -21,5 +22,5 @@ module _ (limit : Limit) (v : ℕ) (d : List ℕ) (at : ℕ) where
   no-room h l = put.no-room (limitNo limit v) (form v) d at (limit-within limit v h) l
 
   -- the form is written
-  pub wrote : {m : ℕ} {e : List ℕ} → v ≤ mostOf limit → at + length (form v) ≤ length d → Ends (form v) d at m e → Puts (limitNo limit v) (form v) d at (written.Next m) e
-  wrote h l p = put.put-wrote (limitNo limit v) (form v) d at (limit-within limit v h) l p
+  pub wrote : {n : ℕ} {e : List ℕ} → v ≤ mostOf limit → at + length (form v) ≤ length d → n ≡ length (form v) → e ≡ sets d at (form v) → Puts (limitNo limit v) (form v) d at (written.Next (at + n)) e
+  wrote h l p q = rw (p, q) (put.wrote (limitNo limit v) (form v) d at (limit-within limit v h) l)

@@ -145,5 +145,7 @@ pub fn write_number(buffer: &mut [u8], at: usize, value: u64, limit: Limit) -> W
     if room - n < at {
         return Written::Refused(Refusal { no: 8 });
     }
-    Written::Next(put_number(buffer, at, value))
+    put_number(buffer, at, value);
+    let next = at + n;
+    Written::Next(next)
 }

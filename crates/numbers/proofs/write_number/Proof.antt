@@ -29,13 +29,16 @@ returns-3 c =
 put-number-requires : tie.Need-put-number-requires
 put-number-requires c κs = search needs
 
+add-next : tie.Need-add-next
+add-next c = search needs
+
 same-length : tie.Need-same-length
 same-length c = search needs
 
 returns-4 : tie.Need-returns-4
 returns-4 c =
     let a = c .before .before .before .before .before .before .before .before .before .before .args in
-    wrote (a .limit) (a .value) (a .buffer .now) (a .at) (omega arith) (omega arith) (c .before .before .put-number .ensures)
+    wrote (a .limit) (a .value) (a .buffer .now) (a .at) (omega arith) (omega arith) (c .before .before .before .before .before .before .width .ensures) (c .before .before .put-number .ensures .1)
 
 pub write-number-spec : {M : Type 1} → statement M
 write-number-spec =
@@ -47,5 +50,6 @@ write-number-spec =
     returns-2
     returns-3
     put-number-requires
+    add-next
     same-length
     returns-4)

@@ -1,4 +1,4 @@
-// Numbers of the coding one after the other, as every written form has them: passed over, taken into lent room, and written.
+// Numbers of the coding one after the other, as every written form has them: passed over, taken into lent room, put and written.
 ghost use mathlib.Core.Path.{_≡_};
 ghost use lib.Dec.{leb};
 ghost use lib.ListN.{length};

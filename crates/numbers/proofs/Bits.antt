@@ -16,12 +16,12 @@ groups (suc g) =
     let e : suc g * 7 ≡ g * 7 + 7 = omega arith in
     rw (pow-suc 128 g, e, pow-add 2 (g * 7) 7, groups g)
 
--- above the first group a bound is even, and so says of a number what it says of the odd one at it
+-- above the first group a bound is even, and so one on the odd number at v is one on v
 even : (g v : ℕ) → 128 ^ g * 2 ≤ 2 * (v / 2 * 2 + 1) + 1 → 0 < g → 128 ^ g ≤ v
 even zero v h z = absurd (omega arith)
 even (suc g) v h z = rw (pow-suc 128 g) (omega (arith, rw (pow-suc 128 g) at h))
 
--- a number of m bits has a byte for every seven of them
+-- a number of m bits has a byte for every seven of them, the last in part
 bits : (m v : ℕ) → m ≤ 64 → v / 2 * 2 + 1 < 2 ^ m → 2 ^ m ≤ 2 * (v / 2 * 2 + 1) + 1 → (m + 6) / 7 ≡ length (form v)
 unfolding form
 bits zero v l s b = absurd (omega arith)
@@ -33,7 +33,7 @@ bits (suc m) v l s b =
     let twice : 2 ^ (g * 7 + 1) ≡ 128 ^ g * 2 = rw (groups g) (pow-add 2 (g * 7) 1) in
     rw size (sym (form-size g 9 v (omega arith) (even g v (omega arith)) (omega arith)))
 
--- and its bits are 64 less the zeros that lead it, where 0 has one bit, as the odd number at it
+-- and its bits are 64 less the zeros that lead the odd number at it; 0 has one bit, as 1 has
 pub bytes-of : (v : ℕ) → v < 2 ^ 64 → (64 - leadingZeros 64 (v / 2 * 2 + 1) + 6) / 7 ≡ length (form v)
 bytes-of v h =
     let t = leading-length 64 (v / 2 * 2 + 1) (omega arith) in

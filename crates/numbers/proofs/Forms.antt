@@ -58,7 +58,7 @@ form-short (suc g) (suc f) x s = go (form-short g f (x / 128) (less (suc g) x s)
     go h true = omega arith
     go h false = omega arith
 
--- a number of g + 1 groups, where it has one more than g
+-- a number below 128 ^ (g + 1), and not below 128 ^ g, has g + 1 groups
 pub form-size : (g f x : ℕ) → g ≤ f → (0 < g → 128 ^ g ≤ x) → x < 128 ^ suc g → length (formIn (suc f) x) ≡ suc g
 form-size zero f x l b s = rw (form-last f x (omega arith))
 form-size (suc g) zero x l b s = absurd (omega arith)

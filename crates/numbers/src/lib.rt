@@ -101,7 +101,7 @@ pub fn read_number(bytes: &[u8], at: usize, limit: Limit) -> Read
     read_groups(bytes, at, limit.groups(), limit.most())
 }
 
-// How many bytes the shortest form of a number takes: one for every seven bits of its length. 0 has the length of 1.
+// How many bytes the shortest form of a number takes: one for every seven bits, the last of them in part, where 0 has one bit.
 pub fn width(value: u64) -> usize
     ensures { λ r. ⌜ r ≡ length (form value) ⌝ }
 {

@@ -2,7 +2,7 @@
 use mathlib.Core.Bool.{Bool, true, false, not}
 use mathlib.Core.List.{List, append-nil}
 use mathlib.Core.Path.{_≡_, refl, sym, ap, _∙_}
-use Prim.Native.Nat.{ℕ, zero, suc, _+_, _/_, _≤_, _<_}
+use Prim.Native.Nat.{ℕ, suc, _+_, _≤_, _<_}
 use native.Mathlib.Omega.{arith}
 use lib.ListN.{length, set, drop-of-length-le}
 use lib.Seq.{sets, sets-eq}
@@ -16,6 +16,7 @@ use Rattle.sizes.proofs.SizeLaws.{bounds}
 use Rattle.model.specs.declared.Proposer.{Proposer}
 use Rattle.choice.proofs.Tests.{and-l, and-r}
 use Rattle.layouts.specs.Layout.{sizesOf, wordBytes, setSize, setBytes, numberBytes, acceptorsBytes, flagBytes, flagged, flaggedSize, isAnswer, isAcceptor, bufferedPlace, proposedPlace, gatheredPlace, numberPlace, acknowledgedPlace, rejectedPlace, decidedPlace, proposerSize, isProposer, proposerBytes, heardPlace, isLearner}
+use Rattle.layouts.proofs.Words.{length-word}
 
 -- ---- a test by a function, in what its result is
 
@@ -33,11 +34,6 @@ flag-byte false = refl
 
 pub stored-flag : (bytes : List ℕ) (at : ℕ) (t : Bool) → set bytes at (boolByte t) ≡ sets bytes at (flagBytes t)
 stored-flag bytes at t = ap (λ (n : ℕ). set bytes at n) (flag-byte t)
-
-length-word : (n word : ℕ) → length (wordBytes n word) ≡ n
-unfolding wordBytes
-length-word zero word = refl
-length-word (suc n) word = ap suc (length-word n (word / 256))
 
 -- bytes that are all put are those that were put
 pub put-whole : (bytes new : List ℕ) → length bytes ≡ length new → sets bytes 0 new ≡ new

@@ -1,11 +1,12 @@
--- How the loops over the bytes of a number go.
-use mathlib.Core.List.{List}
-use mathlib.Core.Path.{_≡_, refl, _∙_}
+-- How the loops over the bytes of a number go, and how a number is made of two.
+use mathlib.Core.List.{List, _∷_, _++_}
+use mathlib.Core.Path.{_≡_, refl, sym, ap, _∙_}
 use Prim.Native.Nat.{ℕ, zero, suc, _+_, _-_, _*_, _/_, _%_, _^_, _≤_, _<_}
-use native.Mathlib.Nat.{pow-suc, pow-le-pow-right}
+use native.Mathlib.Nat.{add-zero, zero-add, suc-add, mul-assoc, div-one, div-div-eq-div-mul, pow-suc, pow-succ', pow-le-pow-right}
 use native.Mathlib.Omega.{arith}
 use lib.ListN.{length, getD, set, length-set}
 use lib.Seq.{sets}
+use Rattle.forms.proofs.Steps.{sets-append}
 use Rattle.layouts.specs.Layout.{wordAt, wordBytes}
 
 -- n bytes make a number below 256 ^ n
@@ -77,3 +78,36 @@ module _ (first : List ℕ) (at count word : ℕ) where
   put-all bytes rest i t h =
       let p : count - i ≡ 0 = omega arith in
       rw p at (t .left)
+
+-- ---- the bytes of one number after those of another
+
+-- read
+pub word-join : (m n : ℕ) (bytes : List ℕ) (at : ℕ) → wordAt m bytes at + wordAt n bytes (at + m) * 256 ^ m ≡ wordAt (m + n) bytes at
+unfolding wordAt
+word-join zero n bytes at = rw (add-zero at, zero-add n) (omega arith)
+word-join (suc m) n bytes at =
+    let p : at + suc m ≡ suc at + m = omega arith in
+    let w = wordAt n bytes (suc at + m) in
+    let q : w * 256 ^ suc m ≡ w * 256 ^ m * 256 = ap (λ (k : ℕ). w * k) (pow-suc 256 m) ∙ sym (mul-assoc w (256 ^ m) 256) in
+    rw (p, suc-add m n, q) (omega (arith, word-join m n bytes (suc at)))
+
+pub length-word : (n word : ℕ) → length (wordBytes n word) ≡ n
+unfolding wordBytes
+length-word zero word = refl
+length-word (suc n) word = ap suc (length-word n (word / 256))
+
+bytes-join : (m n word : ℕ) → wordBytes m word ++ wordBytes n (word / 256 ^ m) ≡ wordBytes (m + n) word
+unfolding wordBytes
+bytes-join zero n word = rw (zero-add n, div-one word)
+bytes-join (suc m) n word =
+    let q : word / 256 ^ suc m ≡ word / 256 / 256 ^ m = ap (λ (k : ℕ). word / k) (pow-succ' 256 m) ∙ sym (div-div-eq-div-mul word 256 (256 ^ m)) in
+    rw (suc-add m n, q) (ap (λ (l : List ℕ). word % 256 ∷ l) (bytes-join m n (word / 256)))
+
+-- put
+pub put-join : (m n word : ℕ) (bytes : List ℕ) (at : ℕ) → sets (sets bytes at (wordBytes m word)) (at + m) (wordBytes n (word / 256 ^ m)) ≡ sets bytes at (wordBytes (m + n) word)
+put-join m n word bytes at =
+    let us = wordBytes m word in
+    let vs = wordBytes n (word / 256 ^ m) in
+    ap (λ (k : ℕ). sets (sets bytes at us) (at + k) vs) (sym (length-word m word))
+    ∙ sym (sets-append us vs bytes at)
+    ∙ ap (sets bytes at) (bytes-join m n word)

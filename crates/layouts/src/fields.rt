@@ -1,8 +1,8 @@
 // Values out of bytes, and into them: every number low byte first. Past the end a byte reads 0, and one that is put there is left out.
 ghost use mathlib.Core.List.{[], _∷_};
 ghost use mathlib.Core.Path.{_≡_};
-ghost use Prim.Native.Nat.{_≤_, min};
-ghost use lib.ListN.{getD};
+ghost use Prim.Native.Nat.{_+_, _≤_, min};
+ghost use lib.ListN.{length, getD};
 ghost use lib.Seq.{sets};
 ghost use Rattle.layouts.specs.Layout.{sizesOf, wordAt, wordBytes, setAt, setBytes, numberAt, numberBytes, acceptorsAt, acceptorsBytes, isFlag, flagAt, flagBytes, isSet, isAnswer, flagged};
 use choice::both;
@@ -88,16 +88,91 @@ fn put_word(bytes: &mut [u8], at: u16, count: usize, word: u64)
     }
 }
 
+fn wide(byte: u8) -> u64
+    ensures { λ r. ⌜ r ≡ byte ⌝ }
+{
+    byte as u64
+}
+
+// The number of two, four and eight bytes that are there: the compiler reads them at once.
+fn two_at(bytes: &[u8], at: usize) -> u64
+    requires { ⌜ at + 2 ≤ length (now bytes) ⌝ }
+    ensures { λ r. ⌜ r ≡ wordAt 2 (now (bytes .entry)) at ⌝ }
+{
+    wide(bytes[at]) + wide(bytes[at + 1]) * 256
+}
+
+fn four_at(bytes: &[u8], at: usize) -> u64
+    requires { ⌜ at + 4 ≤ length (now bytes) ⌝ }
+    ensures { λ r. ⌜ r ≡ wordAt 4 (now (bytes .entry)) at ⌝ }
+{
+    two_at(bytes, at) + two_at(bytes, at + 2) * 65_536
+}
+
+fn eight_at(bytes: &[u8], at: usize) -> u64
+    requires { ⌜ at + 8 ≤ length (now bytes) ⌝ }
+    ensures { λ r. ⌜ r ≡ wordAt 8 (now (bytes .entry)) at ⌝ }
+{
+    four_at(bytes, at) + four_at(bytes, at + 4) * 4_294_967_296
+}
+
+// Puts a number into two, four and eight bytes that are there: the compiler stores them at once.
+fn put_two(bytes: &mut [u8], at: usize, word: u64)
+    requires { ⌜ at + 2 ≤ length (now bytes) ⌝ }
+    ensures { λ _. ⌜ now (bytes .exit) ≡ sets (now (bytes .entry)) at (wordBytes 2 word) ⌝ }
+{
+    bytes[at] = (word % 256) as u8;
+    bytes[at + 1] = (word / 256 % 256) as u8;
+}
+
+fn put_four(bytes: &mut [u8], at: usize, word: u64)
+    requires { ⌜ at + 4 ≤ length (now bytes) ⌝ }
+    ensures { λ _. ⌜ now (bytes .exit) ≡ sets (now (bytes .entry)) at (wordBytes 4 word) ⌝ }
+{
+    put_two(bytes, at, word);
+    put_two(bytes, at + 2, word / 65_536);
+}
+
+fn put_eight(bytes: &mut [u8], at: usize, word: u64)
+    requires { ⌜ at + 8 ≤ length (now bytes) ⌝ }
+    ensures { λ _. ⌜ now (bytes .exit) ≡ sets (now (bytes .entry)) at (wordBytes 8 word) ⌝ }
+{
+    put_four(bytes, at, word);
+    put_four(bytes, at + 4, word / 4_294_967_296);
+}
+
+// A word of a set, 8 bytes: byte by byte where some are past the end.
+fn set_word_at(bytes: &[u8], at: u16) -> u64
+    ensures { λ r. ⌜ r ≡ wordAt 8 (now (bytes .entry)) at ⌝ }
+{
+    let from = at as usize;
+    if from + 8 <= bytes.len() {
+        return eight_at(bytes, from);
+    }
+    word_at(bytes, at, 8)
+}
+
+fn put_set_word(bytes: &mut [u8], at: u16, word: u64)
+    ensures { λ _. ⌜ now (bytes .exit) ≡ sets (now (bytes .entry)) at (wordBytes 8 word) ⌝ }
+{
+    let from = at as usize;
+    if from + 8 <= bytes.len() {
+        put_eight(bytes, from, word);
+        return;
+    }
+    put_word(bytes, at, 8, word);
+}
+
 pub fn set_at(bytes: &[u8], at: u16) -> Scans
     ensures { λ r. ⌜ r ≡ setAt (now (bytes .entry)) at ⌝ }
 {
-    Scans::of_first_word(word_at(bytes, at, 8))
+    Scans::of_first_word(set_word_at(bytes, at))
 }
 
 pub(crate) fn put_set(bytes: &mut [u8], at: u16, set: Scans)
     ensures { λ _. ⌜ now (bytes .exit) ≡ sets (now (bytes .entry)) at (setBytes set) ⌝ }
 {
-    put_word(bytes, at, 8, set.first_word());
+    put_set_word(bytes, at, set.first_word());
 }
 
 // Whether the bytes are a set within so many scans. More than a set can hold count as that many.
@@ -114,12 +189,21 @@ pub fn is_set(bytes: &[u8], scans: u64) -> bool
 pub(crate) fn number_at(bytes: &[u8], at: u16) -> u16
     ensures { λ r. ⌜ r ≡ numberAt (now (bytes .entry)) at ⌝ }
 {
+    let from = at as usize;
+    if from + 2 <= bytes.len() {
+        return two_at(bytes, from) as u16;
+    }
     word_at(bytes, at, 2) as u16
 }
 
 pub(crate) fn put_number(bytes: &mut [u8], at: u16, number: u16)
     ensures { λ _. ⌜ now (bytes .exit) ≡ sets (now (bytes .entry)) at (numberBytes number) ⌝ }
 {
+    let from = at as usize;
+    if from + 2 <= bytes.len() {
+        put_two(bytes, from, number as u64);
+        return;
+    }
     put_word(bytes, at, 2, number as u64);
 }
 

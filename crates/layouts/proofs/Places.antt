@@ -1,5 +1,5 @@
 -- How the loops over a learner's places go.
-use mathlib.Core.Bool.{true}
+use mathlib.Core.Bool.{Bool, true, false, _&&_}
 use mathlib.Core.List.{List, [], _∷_, _++_, append-assoc, append-nil}
 use mathlib.Core.Logic.{⊎-elim}
 use mathlib.Core.Path.{_≡_, refl, sym, ap, _∙_}
@@ -8,16 +8,21 @@ use native.Mathlib.Nat.{min-eq-left, min-eq-right, min-le-right}
 use native.Mathlib.Numerals.{add-one}
 use native.Mathlib.Omega.{arith}
 use lib.ListN.{length, getD, set, take, replicate, length-set, length-append, length-replicate}
-use lib.Seq.{sets, take-suc, take-all, length-take-le, set-at, append-snoc}
+use lib.Seq.{sets, take-suc, take-at, take-all, length-take-le, set-at, append-snoc}
+use borrow.Author.Tests.{eq-eqb}
+use Rattle.sets.specs.Scans.{fits}
+use Rattle.sizes.specs.Sizes.{sizesInRange}
+use Rattle.sizes.specs.declared.Sizes.{Sizes}
 use Rattle.forms.proofs.Steps.{sets-append}
 use Rattle.model.specs.Records.{unheard}
+use Rattle.model.specs.Ranges.{all, heardInRange, learnerInRange}
 use Rattle.model.specs.Rules.{listening}
 use Rattle.model.specs.declared.Heard.{Heard}
 use Rattle.model.specs.declared.Learner.{Learner}
 use Rattle.model.specs.declared.Message.{Message}
 use Rattle.model.proofs.RuleLaws.{listening-heard}
 use Rattle.model.proofs.Moments.{earlier}
-use Rattle.layouts.specs.Layout.{wordBytes, setSize, setBytes, numberBytes, acceptorsBytes, flagBytes, flagged, flaggedSize, heardSize, heardPlace, heardBytes, heardAt, placesBytes, placesAt, isLearner, learnerAt, learnerBytes}
+use Rattle.layouts.specs.Layout.{sizesOf, wordBytes, setSize, setAt, setBytes, numberBytes, acceptorsBytes, isFlag, flagBytes, flagged, flaggedSize, heardSize, heardPlace, heardBytes, heardAt, placesBytes, placesAt, isLearner, learnerAt, learnerBytes}
 use Rattle.layouts.proofs.Parts.{put-whole, learner-length, learner-sizes, few-proposers}
 
 -- ---- reading
@@ -56,6 +61,35 @@ eight-heard p bytes = rw (sym (eight-left p)) (eight-read (min p 8) bytes (min-l
 
 pub eight-listening : (a p : ℕ) (bytes : List ℕ) (m : Message) → length (listening a (learnerAt p bytes) m .heard) ≡ 8
 eight-listening a p bytes m = ap length (listening-heard a (learnerAt p bytes) m) ∙ simp length-set (eight-heard p bytes)
+
+-- ---- testing
+
+and-true : (x : Bool) → (x && true) ≡ x
+and-true true = refl
+and-true false = refl
+
+and-assoc : (x y z : Bool) → ((x && y) && z) ≡ (x && (y && z))
+and-assoc true y z = refl
+and-assoc false y z = refl
+
+-- one more at the end
+all-snoc : {B : Type 0} (f : B → Bool) (l : List B) (x : B) → (all f l && f x) ≡ all f (l ++ x ∷ [])
+unfolding all
+all-snoc f [] x = sym (and-true (f x))
+all-snoc f (y ∷ l) x = and-assoc (f y) (all f l) (f x) ∙ ap (λ (t : Bool). f y && t) (all-snoc f l x)
+
+-- the place after the first i
+pub test-place : (z : Sizes) (i : ℕ) (bytes : List ℕ) {t u : Bool} → t ≡ all (heardInRange z) (placesAt i bytes) → u ≡ heardInRange z (heardAt bytes (heardPlace i))
+    → (t && u) ≡ all (heardInRange z) (placesAt (i + 1) bytes)
+unfolding placesAt
+test-place z i bytes e f = rw (e, f, add-one i) (all-snoc (heardInRange z) (placesAt i bytes) (heardAt bytes (heardPlace i)))
+
+-- what is left to test of a learner's record after its sizes, its length, its flag and what it learnt
+pub learner-left : (p a s : ℕ) (bytes : List ℕ) {t : Bool} → sizesInRange (sizesOf p a s) ≡ true → length bytes ≡ heardPlace p → isFlag bytes 0 ≡ true → fits (setAt bytes 1) s ≡ t
+    → isLearner p a s bytes ≡ (t && all (heardInRange (sizesOf p a s)) (placesAt p bytes))
+unfolding isLearner learnerInRange learnerAt
+learner-left p a s bytes e n f g =
+    rw (e, eq-eqb (length bytes) (heardPlace p) n, f, g, min-eq-left (few-proposers p a s e), take-at (placesAt p bytes) (replicate (8 - p) unheard) p (length-places-at p bytes))
 
 -- ---- writing
 

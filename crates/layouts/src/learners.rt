@@ -3,7 +3,8 @@ ghost use mathlib.Core.Path.{_≡_};
 ghost use Prim.Native.Nat.{_≤_, _<_};
 ghost use lib.ListN.{take};
 ghost use lib.Seq.{sets};
-ghost use Rattle.layouts.specs.Layout.{flaggedSize, heardPlace, heardAt, heardBytes, placesBytes, isLearner, learnerAt, learnerBytes};
+ghost use Rattle.layouts.specs.Layout.{flaggedSize, heardPlace, heardAt, heardBytes, placesAt, placesBytes, isLearner, learnerAt, learnerBytes};
+ghost use Rattle.model.specs.Ranges.{all, heardInRange};
 use crate::fields::FLAGGED_SIZE;
 use crate::fields::SET_SIZE;
 use crate::fields::acceptors_at;
@@ -17,8 +18,10 @@ use crate::fields::put_number;
 use crate::fields::put_set;
 use crate::fields::set_at;
 use crate::fields::sizes_of;
+use choice::both;
 use model::Heard;
 use model::Learner;
+use sizes::Sizes;
 
 // A place is a number, a set and acceptors.
 const HEARD_ACCEPTORS: u16 = 2 + SET_SIZE;
@@ -91,6 +94,20 @@ pub fn put_learner(kept: &mut [u8], l: Learner, proposers: u64)
     put_places(kept, l, at_most(proposers, 8));
 }
 
+// Whether what was heard of the first proposers is within its ranges.
+fn places_in_range(kept: &[u8], count: u16, z: Sizes) -> bool
+    requires { ⌜ count ≤ 8 ⌝ }
+    ensures { λ r. ⌜ r ≡ all (heardInRange z) (placesAt count (now (kept .entry))) ⌝ }
+{
+    let mut sound = true;
+    let mut i: u16 = 0;
+    while i < count {
+        sound = both(sound, heard_at(kept, i).in_range(z));
+        i += 1;
+    }
+    sound
+}
+
 // Whether the bytes are a learner's record of a run of these sizes.
 pub fn is_learner(kept: &[u8], proposers: u64, acceptors: u64, scans: u64) -> bool
     ensures { λ r. ⌜ r ≡ isLearner proposers acceptors scans (now (kept .entry)) ⌝ }
@@ -105,5 +122,8 @@ pub fn is_learner(kept: &[u8], proposers: u64, acceptors: u64, scans: u64) -> bo
     if !is_flag(kept, 0) {
         return false;
     }
-    learner_at(kept, proposers).in_range(z)
+    if !set_at(kept, 1).fits(z.scans as u32) {
+        return false;
+    }
+    places_in_range(kept, z.proposers, z)
 }

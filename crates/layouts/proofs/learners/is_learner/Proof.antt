@@ -1,8 +1,13 @@
+use mathlib.Core.Path.{sym, ap, _∙_}
 use native.Mathlib.Omega.{arith}
 use borrow.Author.Tests.{eq-eqb, ne-eqb}
 use borrow.Author.Needs.{needs}
-use Rattle.layouts.specs.Layout.{isLearner}
+use Rattle.sets.specs.Scans.{fits}
+use Rattle.sizes.specs.declared.Sizes.{Sizes}
+use Rattle.model.specs.Ranges.{all, heardInRange}
+use Rattle.layouts.specs.Layout.{placesAt, isLearner}
 use Rattle.layouts.proofs.Parts.{passed, failed, few-proposers}
+use Rattle.layouts.proofs.Places.{learner-left}
 use Rattle.layouts.proofs.Wide.{sizes-tested, narrowed-same}
 use Rattle.layouts.proofs.learners.is_learner.Statement.{statement}
 use Rattle.layouts.proofs.learners.is_learner.Tie as tie
@@ -61,22 +66,51 @@ returns-3 c =
     let e = passed (sizes-tested (s .args .proposers) (s .args .acceptors) (s .args .scans) z (t₁ .before .in-range .ensures)) (t₁ .if1 .left) in
     simp (e, eq-eqb _ _ (t₂ .if2 .left), failed (c .before .is-flag .ensures) (c .if3 .taken))
 
-learner-at-requires : tie.Need-learner-at-requires
-learner-at-requires c κs = search needs
+set-at-requires : tie.Need-set-at-requires
+set-at-requires c κs = search needs
 
-in-range-requires-2 : tie.Need-in-range-requires-2
-in-range-requires-2 c κs = search needs
+cast-fits : tie.Need-cast-fits
+cast-fits c = search needs
+
+fits-requires : tie.Need-fits-requires
+fits-requires c κs = search needs
 
 returns-4 : tie.Need-returns-4
-unfolding isLearner
 returns-4 c =
-    let t₃ = c .before .before in
+    let t₃ = c .before .before .before .before in
     let t₂ = t₃ .before .before in
     let t₁ = t₂ .before in
-    let s = t₁ .before .before .before .before in
+    let a = t₁ .before .before .before .before .args in
     let z = t₁ .before .before .sizes-of .ensures in
-    let e = passed (sizes-tested (s .args .proposers) (s .args .acceptors) (s .args .scans) z (t₁ .before .in-range .ensures)) (t₁ .if1 .left) in
-    simp (e, eq-eqb _ _ (t₂ .if2 .left), passed (t₃ .before .is-flag .ensures) (t₃ .if3 .left)) (simp (c .in-range2 .ensures, c .before .learner-at .ensures, z, narrowed-same (s .args .proposers) (s .args .acceptors) (s .args .scans) e))
+    let e = passed (sizes-tested (a .proposers) (a .acceptors) (a .scans) z (t₁ .before .in-range .ensures)) (t₁ .if1 .left) in
+    let w = z ∙ narrowed-same (a .proposers) (a .acceptors) (a .scans) e in
+    let v = c .before .before .before .set-at .ensures in
+    let g = failed (c .before .fits2 .ensures ∙ λ i. fits (v i) (w i .scans)) (c .if4 .taken) in
+    sym (learner-left (a .proposers) (a .acceptors) (a .scans) (a .kept .now) e (t₂ .if2 .left) (passed (t₃ .before .is-flag .ensures) (t₃ .if3 .left)) g)
+
+places-in-range-requires : tie.Need-places-in-range-requires
+places-in-range-requires c κs =
+    let t₁ = c .before .before .before .before .before .before .before in
+    let a = t₁ .before .before .before .before .args in
+    let z = t₁ .before .before .sizes-of .ensures in
+    let e = passed (sizes-tested (a .proposers) (a .acceptors) (a .scans) z (t₁ .before .in-range .ensures)) (t₁ .if1 .left) in
+    omega (arith, ap (λ (x : Sizes). x .proposers) (z ∙ narrowed-same (a .proposers) (a .acceptors) (a .scans) e), few-proposers (a .proposers) (a .acceptors) (a .scans) e)
+
+returns-5 : tie.Need-returns-5
+returns-5 c =
+    let t₄ = c .before in
+    let t₃ = t₄ .before .before .before .before in
+    let t₂ = t₃ .before .before in
+    let t₁ = t₂ .before in
+    let a = t₁ .before .before .before .before .args in
+    let z = t₁ .before .before .sizes-of .ensures in
+    let e = passed (sizes-tested (a .proposers) (a .acceptors) (a .scans) z (t₁ .before .in-range .ensures)) (t₁ .if1 .left) in
+    let w = z ∙ narrowed-same (a .proposers) (a .acceptors) (a .scans) e in
+    let v = t₄ .before .before .before .set-at .ensures in
+    let g = passed (t₄ .before .fits2 .ensures ∙ λ i. fits (v i) (w i .scans)) (t₄ .if4 .left) in
+    c .places-in-range .ensures
+    ∙ (λ i. all (heardInRange (w i)) (placesAt (w i .proposers) (a .kept .now)))
+    ∙ sym (learner-left (a .proposers) (a .acceptors) (a .scans) (a .kept .now) e (t₂ .if2 .left) (passed (t₃ .before .is-flag .ensures) (t₃ .if3 .left)) g)
 
 pub is-learner-spec : {M : Type 1} → statement M
 is-learner-spec =
@@ -92,6 +126,9 @@ is-learner-spec =
     returns-2
     is-flag-requires
     returns-3
-    learner-at-requires
-    in-range-requires-2
-    returns-4)
+    set-at-requires
+    cast-fits
+    fits-requires
+    returns-4
+    places-in-range-requires
+    returns-5)

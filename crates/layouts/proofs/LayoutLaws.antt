@@ -1,14 +1,15 @@
 -- The laws of the layouts: reading what was written gives the record back, and writing what was read gives the bytes back. So a record has one written form.
 use mathlib.Core.Bool.{Bool, true, false}
 use mathlib.Core.List.{List, [], _∷_, _++_, append-nil}
+use mathlib.Core.Logic.{⊎-elim}
 use mathlib.Core.Path.{_≡_, refl, sym, ap, _∙_}
 use Prim.Native.Nat.{ℕ, zero, suc, _+_, _-_, _*_, _/_, _%_, _^_, _≤_, _<_}
-use native.Mathlib.Nat.{not-suc-le-zero, le-of-suc-le-suc, pow-suc, div-add-mod', min-eq-left}
+use native.Mathlib.Nat.{not-suc-le-zero, le-of-suc-le-suc, eq-or-lt-of-le, pow-suc, div-add-mod', min-eq-left}
 use native.Mathlib.Omega.{arith}
 use lib.Arith.{digits-div, digits-mod}
 use lib.Dec.{eqb}
-use lib.ListN.{length, getD, set, take, drop, replicate, take-append-drop}
-use lib.Seq.{sets, set-getD, getD-drop, drop-cons, drop-at, drop-drop, take-suc, take-at, take-all, length-take-le}
+use lib.ListN.{length, getD, set, take, drop, replicate, take-append-drop, List·getD-append}
+use lib.Seq.{sets, set-getD, getD-at, getD-drop, drop-cons, drop-at, drop-drop, take-suc, take-at, take-all, take-set-lt, length-take-le}
 use borrow.Author.Tests.{leb-true}
 use Rattle.choice.specs.Choice.{if_then_else_}
 use Rattle.sets.specs.Scans.{mostScans, fits, firstWord, ofFirstWord}
@@ -18,7 +19,7 @@ use Rattle.sizes.specs.Sizes.{sizesInRange}
 use Rattle.sizes.specs.declared.Sizes.{Sizes}
 use Rattle.sizes.proofs.SizeLaws.{bounds}
 use Rattle.forms.proofs.Steps.{sets-append}
-use Rattle.model.specs.Records.{unheard}
+use Rattle.model.specs.Records.{unheard, heardOf}
 use Rattle.model.specs.Ranges.{all, acceptorInRange, proposerInRange, heardInRange, learnerInRange}
 use Rattle.model.specs.declared.Acceptor.{Acceptor}
 use Rattle.model.specs.declared.Heard.{Heard}
@@ -27,7 +28,7 @@ use Rattle.model.specs.declared.Proposer.{Proposer}
 use Rattle.choice.proofs.Tests.{and-l, and-r}
 use Rattle.layouts.specs.Layout.{wordAt, wordBytes, setSize, setAt, setBytes, isFlag, flagAt, flagBytes, flagged, flaggedSize, isAcceptor, acceptorAt, acceptorBytes, bufferedPlace, proposedPlace, gatheredPlace, numberPlace, acknowledgedPlace, rejectedPlace, decidedPlace, isProposer, proposerAt, proposerBytes, heardSize, heardPlace, heardAt, heardBytes, placesAt, placesBytes, isLearner, learnerAt, learnerBytes}
 use Rattle.layouts.proofs.Parts.{put-whole, proposer-whole, put-fields, acceptor-length, learner-sizes, few-proposers}
-use Rattle.layouts.proofs.Places.{eight-heard, length-places-at, length-places, places-append, put-heard-fields, learner-whole, put-learner-parts}
+use Rattle.layouts.proofs.Places.{eight-heard, length-places-at, length-places, places-append, sets-middle, put-over, put-heard-fields, learner-whole, put-learner-parts}
 
 -- bytes are below 256
 abbrev pub AreBytes : List ℕ → Type 0
@@ -275,3 +276,40 @@ module _ (bytes : List ℕ) (b : AreBytes bytes) where
       (sym (set-same bytes b 1))
       (sym (places-same p))
       ∙ learner-whole p a s bytes (learnerAt p bytes) (eight-heard p bytes) e)
+
+-- ---- one place of a learner's record
+
+place-at : (n : ℕ) (bytes : List ℕ) (i : ℕ) → i < n → getD (placesAt n bytes) i unheard ≡ heardAt bytes (heardPlace i)
+unfolding placesAt
+place-at zero bytes i h = absurd (not-suc-le-zero h)
+place-at (suc n) bytes i h =
+    let hs = placesAt n bytes in
+    let x = heardAt bytes (heardPlace n) in
+    ⊎-elim
+    (λ (q : i ≡ n). rw q (getD-at hs x [] unheard n (length-places-at n bytes)))
+    (λ (q : i < n). List·getD-append hs (x ∷ []) unheard i (omega (arith, length-places-at n bytes)) ∙ place-at n bytes i q)
+    (eq-or-lt-of-le (le-of-suc-le-suc h))
+
+-- what was heard of one of the run's own proposers stands at its place
+pub place-read : (p : ℕ) (bytes : List ℕ) (i : ℕ) → p ≤ 8 → i < p → heardOf (learnerAt p bytes) i ≡ heardAt bytes (heardPlace i)
+unfolding learnerAt
+place-read p bytes i few h =
+    rw (min-eq-left few) (List·getD-append (placesAt p bytes) (replicate (8 - p) unheard) unheard i (omega (arith, length-places-at p bytes)) ∙ place-at p bytes i h)
+
+-- what is put at its place is heard of it, and nothing else is changed
+pub place-put : (bytes : List ℕ) → AreBytes bytes → (p a s : ℕ) → isLearner p a s bytes ≡ true → (i : ℕ) (h : Heard) → i < p
+    → sets bytes (heardPlace i) (heardBytes h)
+    ≡ learnerBytes p (record { alive = learnerAt p bytes .alive; learnt = learnerAt p bytes .learnt; heard = set (learnerAt p bytes .heard) i h })
+unfolding learnerBytes wordBytes
+place-put bytes b p a s e i h lt =
+    let l = learnerAt p bytes in
+    let front = flagged (l .alive) (l .learnt) in
+    let many : length (take p (l .heard)) ≡ p = length-take-le p (l .heard) (omega (arith, eight-heard p bytes, few-proposers p a s (learner-sizes p a s bytes e))) in
+    ap (λ (k : List ℕ). sets k (heardPlace i) (heardBytes h)) (sym (learner-same bytes b p a s e))
+    ∙ put-over front (take p (l .heard)) i h refl (omega arith)
+    ∙ ap (λ (hs : List Heard). front ++ placesBytes hs) (sym (take-set-lt p (l .heard) i h lt))
+
+-- and so it is with alive and learnt
+pub flagged-put : (p : ℕ) (l : Learner) (t : Bool) (v : Scans) → sets (learnerBytes p l) 0 (flagged t v) ≡ learnerBytes p (record { alive = t; learnt = v; heard = l .heard })
+unfolding learnerBytes wordBytes
+flagged-put p l t v = sets-middle [] (flagged (l .alive) (l .learnt)) (placesBytes (take p (l .heard))) (flagged t v) 0 refl refl

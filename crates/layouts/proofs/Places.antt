@@ -7,8 +7,8 @@ use Prim.Native.Nat.{ℕ, zero, suc, _+_, _-_, _*_, _≤_, _<_, min}
 use native.Mathlib.Nat.{min-eq-left, min-eq-right, min-le-right}
 use native.Mathlib.Numerals.{add-one}
 use native.Mathlib.Omega.{arith}
-use lib.ListN.{length, getD, set, take, replicate, length-set, length-append, length-replicate}
-use lib.Seq.{sets, take-suc, take-at, take-all, length-take-le, set-at, append-snoc}
+use lib.ListN.{length, getD, set, take, drop, replicate, length-set, length-append, length-replicate}
+use lib.Seq.{sets, sets-eq, take-suc, take-at, take-all, drop-at, split-at, length-take-le, set-at, set-split, append-snoc}
 use borrow.Author.Tests.{eq-eqb}
 use Rattle.sets.specs.Scans.{fits}
 use Rattle.sizes.specs.Sizes.{sizesInRange}
@@ -117,6 +117,29 @@ put-place kept hs i h =
     let n : heardPlace i ≡ flaggedSize + length us = omega (arith, length-places (take i hs), length-take-le i hs (omega arith)) in
     let e : placesBytes (take (suc i) hs) ≡ us ++ v = ap placesBytes (take-suc hs i unheard h) ∙ places-append (take i hs) (getD hs i unheard ∷ []) ∙ ap (λ (l : List ℕ). us ++ l) (append-nil v) in
     rw (add-one i, e, n) (sym (sets-append us v kept flaggedSize))
+
+-- bytes put over as many in the middle
+pub sets-middle : (us old rest new : List ℕ) (at : ℕ) → length us ≡ at → length old ≡ length new → sets (us ++ old ++ rest) at new ≡ us ++ new ++ rest
+sets-middle us old rest new at e f =
+    let l = us ++ old ++ rest in
+    let n : length (us ++ old) ≡ at + length new = length-append us old ∙ omega arith in
+    let m : at + length new ≤ length l = omega (arith, length-append (us ++ old) rest) in
+    sets-eq new l at m ∙ rw (ap (take at) (append-assoc us old rest) ∙ take-at us (old ++ rest) at e, drop-at (us ++ old) rest (at + length new) n)
+
+-- one place put over
+pub put-over : (front : List ℕ) (hs : List Heard) (i : ℕ) (h : Heard) → length front ≡ flaggedSize → i < length hs
+    → sets (front ++ placesBytes hs) (heardPlace i) (heardBytes h) ≡ front ++ placesBytes (set hs i h)
+unfolding placesBytes
+put-over front hs i h f lt =
+    let us = placesBytes (take i hs) in
+    let rest = placesBytes (drop (suc i) hs) in
+    let old = getD hs i unheard in
+    let parts : (k : Heard) → front ++ placesBytes (take i hs ++ k ∷ drop (suc i) hs) ≡ front ++ us ++ heardBytes k ++ rest =
+    λ k. ap (λ (l : List ℕ). front ++ l) (places-append (take i hs) (k ∷ drop (suc i) hs)) ∙ sym (append-assoc (front ++ us) (heardBytes k) rest ∙ append-assoc front us (heardBytes k ++ rest)) in
+    let at : length (front ++ us) ≡ heardPlace i = length-append front us ∙ omega (arith, length-places (take i hs), length-take-le i hs (omega arith)) in
+    ap (λ (l : List ℕ). sets l (heardPlace i) (heardBytes h)) (ap (λ (ks : List Heard). front ++ placesBytes ks) (split-at hs i unheard lt) ∙ parts old)
+    ∙ sets-middle (front ++ us) (heardBytes old) rest (heardBytes h) (heardPlace i) at (length-heard old ∙ sym (length-heard h))
+    ∙ sym (ap (λ (ks : List Heard). front ++ placesBytes ks) (set-split hs i h lt) ∙ parts h)
 
 -- the three fields of a place, put one after the other
 pub put-heard-fields : (b₀ : List ℕ) (at : ℕ) {b₁ b₂ b₃ : List ℕ} (h : Heard)

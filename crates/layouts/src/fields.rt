@@ -238,7 +238,7 @@ pub(crate) fn is_flag(bytes: &[u8], at: u16) -> bool
     byte_at(bytes, at as usize) <= 1
 }
 
-pub(crate) fn flag_at(bytes: &[u8], at: u16) -> bool
+pub fn flag_at(bytes: &[u8], at: u16) -> bool
     ensures { λ r. ⌜ r ≡ flagAt (now (bytes .entry)) at ⌝ }
 {
     byte_at(bytes, at as usize) == 1

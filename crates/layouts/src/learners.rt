@@ -21,6 +21,7 @@ use crate::fields::sizes_of;
 use choice::both;
 use model::Heard;
 use model::Learner;
+use sets::ProposerId;
 use sizes::Sizes;
 
 // A place is a number, a set and acceptors.
@@ -28,12 +29,18 @@ const HEARD_ACCEPTORS: u16 = 2 + SET_SIZE;
 
 const HEARD_SIZE: u16 = HEARD_ACCEPTORS + 1;
 
-// What was heard of one proposer.
-fn heard_at(kept: &[u8], proposer: u16) -> Heard
-    requires { ⌜ proposer < 8 ⌝ }
-    ensures { λ r. ⌜ r ≡ heardAt (now (kept .entry)) (heardPlace proposer) ⌝ }
+// Where the place of a proposer begins.
+fn place_of(proposer: ProposerId) -> u16
+    ensures { λ r. ⌜ r ≡ heardPlace (proposer .0) ⌝ }
 {
-    let at = FLAGGED_SIZE + HEARD_SIZE * proposer;
+    FLAGGED_SIZE + HEARD_SIZE * proposer.0 as u16
+}
+
+// What was heard of one proposer.
+pub fn heard_at(kept: &[u8], proposer: ProposerId) -> Heard
+    ensures { λ r. ⌜ r ≡ heardAt (now (kept .entry)) (heardPlace (proposer .0)) ⌝ }
+{
+    let at = place_of(proposer);
     let number = number_at(kept, at);
     let set = set_at(kept, at + 2);
     let acceptors = acceptors_at(kept, at + HEARD_ACCEPTORS);
@@ -44,11 +51,10 @@ fn heard_at(kept: &[u8], proposer: u16) -> Heard
     }
 }
 
-fn put_heard(kept: &mut [u8], proposer: u16, heard: Heard)
-    requires { ⌜ proposer < 8 ⌝ }
-    ensures { λ _. ⌜ now (kept .exit) ≡ sets (now (kept .entry)) (heardPlace proposer) (heardBytes heard) ⌝ }
+pub fn put_heard(kept: &mut [u8], proposer: ProposerId, heard: Heard)
+    ensures { λ _. ⌜ now (kept .exit) ≡ sets (now (kept .entry)) (heardPlace (proposer .0)) (heardBytes heard) ⌝ }
 {
-    let at = FLAGGED_SIZE + HEARD_SIZE * proposer;
+    let at = place_of(proposer);
     put_number(kept, at, heard.number);
     put_set(kept, at + 2, heard.set);
     put_acceptors(kept, at + HEARD_ACCEPTORS, heard.acceptors);
@@ -63,7 +69,7 @@ pub fn learner_at(kept: &[u8], proposers: u64) -> Learner
     let mut heard = [Heard::unheard(); 8];
     let mut i: u16 = 0;
     while i < count {
-        heard[i as usize] = heard_at(kept, i);
+        heard[i as usize] = heard_at(kept, ProposerId(i as u8));
         i += 1;
     }
     Learner {
@@ -81,7 +87,7 @@ fn put_places(kept: &mut [u8], l: Learner, count: u16)
     let mut i: u16 = 0;
     while i < count {
         let heard = l.heard[i as usize];
-        put_heard(kept, i, heard);
+        put_heard(kept, ProposerId(i as u8), heard);
         i += 1;
     }
 }
@@ -102,7 +108,7 @@ fn places_in_range(kept: &[u8], count: u16, z: Sizes) -> bool
     let mut sound = true;
     let mut i: u16 = 0;
     while i < count {
-        sound = both(sound, heard_at(kept, i).in_range(z));
+        sound = both(sound, heard_at(kept, ProposerId(i as u8)).in_range(z));
         i += 1;
     }
     sound

@@ -3,11 +3,8 @@ use Rattle.layouts.specs.Layout.{heardAt}
 use Rattle.layouts.proofs.learners.heard_at.Statement.{statement}
 use Rattle.layouts.proofs.learners.heard_at.Tie as tie
 
-mul-at : tie.Need-mul-at
-mul-at c = search needs
-
-add-at : tie.Need-add-at
-add-at c = search needs
+place-of-requires : tie.Need-place-of-requires
+place-of-requires c κs = search needs
 
 number-at-requires : tie.Need-number-at-requires
 number-at-requires c κs = search needs
@@ -26,14 +23,13 @@ acceptors-at-requires c κs = search needs
 
 returns : tie.Need-returns
 unfolding heardAt
-returns c = simp (c .acceptors-at .ensures, c .before .set-at .ensures, c .before .before .number-at .ensures)
+returns c = simp (c .acceptors-at .ensures, c .before .set-at .ensures, c .before .before .number-at .ensures, c .before .before .before .place-of .ensures)
 
 pub heard-at-spec : {M : Type 1} → statement M
 heard-at-spec =
     tie.close
     (tie.spec
-    mul-at
-    add-at
+    place-of-requires
     number-at-requires
     add-set-at
     set-at-requires

@@ -33,6 +33,9 @@ loop-holds : tie.Need-loop-holds Inv-loop μ-loop
 unfolding placesAt
 loop-holds c = (search needs, omega (arith, c .before .at-most .ensures), simp (c .unheard .ensures))
 
+cast-t11 : tie.Need-cast-t11 Inv-loop μ-loop
+cast-t11 c = search needs
+
 heard-at-requires : tie.Need-heard-at-requires Inv-loop μ-loop
 heard-at-requires c κs = search needs
 
@@ -76,6 +79,7 @@ learner-at-spec =
     at-most-requires
     unheard-requires
     loop-holds
+    cast-t11
     heard-at-requires
     cast-heard
     mul-heard

@@ -20,6 +20,9 @@ loop-holds : tie.Need-loop-holds Inv-loop μ-loop
 unfolding all placesAt
 loop-holds c = search needs
 
+cast-t8 : tie.Need-cast-t8 Inv-loop μ-loop
+cast-t8 c = search needs
+
 heard-at-requires : tie.Need-heard-at-requires Inv-loop μ-loop
 heard-at-requires c κs = search needs
 
@@ -56,6 +59,7 @@ places-in-range-spec =
     Inv-loop
     μ-loop
     loop-holds
+    cast-t8
     heard-at-requires
     in-range-requires
     both-requires

@@ -1,14 +1,14 @@
+use mathlib.Core.Path.{ap, _∙_}
+use Prim.Native.Nat.{ℕ}
+use lib.Seq.{sets}
 use borrow.Author.Needs.{needs}
-use Rattle.layouts.specs.Layout.{heardPlace}
+use Rattle.layouts.specs.Layout.{heardBytes}
 use Rattle.layouts.proofs.Places.{put-heard-fields}
 use Rattle.layouts.proofs.learners.put_heard.Statement.{statement}
 use Rattle.layouts.proofs.learners.put_heard.Tie as tie
 
-mul-at : tie.Need-mul-at
-mul-at c = search needs
-
-add-at : tie.Need-add-at
-add-at c = search needs
+place-of-requires : tie.Need-place-of-requires
+place-of-requires c κs = search needs
 
 put-number-requires : tie.Need-put-number-requires
 put-number-requires c κs = search needs
@@ -30,15 +30,19 @@ same-length c = search needs
 
 returns : tie.Need-returns
 returns c =
-    let s = c .before .before .before .before .before .before .before .before .before .before .before .before .before in
-    put-heard-fields (s .args .kept .now) (heardPlace (s .args .proposer)) (s .args .heard) (c .before .before .before .before .before .before .before .before .before .before .put-number .ensures) (c .before .before .before .before .before .before .put-set .ensures) (c .before .before .put-acceptors .ensures)
+    let p₃ = c .before .before in
+    let p₂ = p₃ .before .before .before .before in
+    let p₁ = p₂ .before .before .before .before in
+    let t = p₁ .before .before in
+    let a = t .before .before .args in
+    put-heard-fields (a .kept .now) (t .place-of .result) (a .heard) (p₁ .put-number .ensures) (p₂ .put-set .ensures) (p₃ .put-acceptors .ensures)
+    ∙ ap (λ (k : ℕ). sets (a .kept .now) k (heardBytes (a .heard))) (t .place-of .ensures)
 
 pub put-heard-spec : {M : Type 1} → statement M
 put-heard-spec =
     tie.close
     (tie.spec
-    mul-at
-    add-at
+    place-of-requires
     put-number-requires
     add-put-set
     put-set-requires

@@ -34,6 +34,9 @@ mul-heard c = search needs
 element-copy-out-heard : tie.Need-element-copy-out-heard Inv-loop μ-loop
 element-copy-out-heard c = search needs
 
+cast-t16 : tie.Need-cast-t16 Inv-loop μ-loop
+cast-t16 c = search needs
+
 put-heard-requires : tie.Need-put-heard-requires Inv-loop μ-loop
 put-heard-requires c κs = search needs
 
@@ -72,6 +75,7 @@ put-places-spec =
     cast-heard
     mul-heard
     element-copy-out-heard
+    cast-t16
     put-heard-requires
     add-i
     loop-less

@@ -1,12 +1,14 @@
 // The learner's rule on its record.
 ghost use mathlib.Core.Path.{_≡_};
 ghost use Rattle.yazhmandu.specs.Calls.{hearNo, hearRecord, hearLearns};
+use layouts::fields::flag_at;
 use layouts::fields::is_answer;
 use layouts::fields::is_set;
+use layouts::fields::put_flagged;
 use layouts::fields::set_at;
+use layouts::learners::heard_at;
 use layouts::learners::is_learner;
-use layouts::learners::learner_at;
-use layouts::learners::put_learner;
+use layouts::learners::put_heard;
 use model::Message;
 use sets::AcceptorId;
 use sets::ProposerId;
@@ -41,8 +43,7 @@ pub extern "C" fn ymd_hear(
     if !is_set(set, scans) {
         return 3;
     }
-    let before = learner_at(kept, proposers);
-    if !before.alive {
+    if !flag_at(kept, 0) {
         return 5;
     }
     let told = Message {
@@ -53,7 +54,14 @@ pub extern "C" fn ymd_hear(
         number: number as u16,
         set: set_at(set, 0),
     };
-    *learns = before.learns(told, acceptors as u32) as u8;
-    put_learner(kept, before.hear(told, acceptors as u32), proposers);
+    let old = heard_at(kept, told.proposer);
+    let new = old.hear(told);
+    let taught = old.teaches(told, set_at(kept, 1), acceptors as u32);
+    *learns = taught as u8;
+    put_heard(kept, told.proposer, new);
+    if !taught {
+        return 0;
+    }
+    put_flagged(kept, true, new.set);
     0
 }

@@ -15,7 +15,7 @@ use sizes::Sizes;
 // A set is one word, 8 bytes; before it a flag is one.
 pub const SET_SIZE: u16 = 8;
 
-pub(crate) const FLAGGED_SIZE: u16 = 1 + SET_SIZE;
+pub const FLAGGED_SIZE: u16 = 1 + SET_SIZE;
 
 // The number, or the greatest where it is above that.
 pub(crate) fn at_most(n: u64, greatest: u16) -> u16

@@ -17,7 +17,7 @@ use Rattle.machine.specs.Acceptors.{answeringNo, replyTo, recordAfter}
 use Rattle.machine.specs.declared.acceptors.Reply.{Reply}
 use Rattle.machine.specs.declared.acceptors.Reply.the-variants.{Accepted, Rejected, Refused}
 use Rattle.machine.proofs.Replies.{told-accepted, told-rejected, told-refused, record-left}
-use Rattle.layouts.specs.Layout.{setAt, isSet, flagged, isAcceptor, acceptorAt, acceptorBytes}
+use Rattle.layouts.specs.Layout.{setSize, setAt, isSet, flagged, flaggedSize, isAcceptor, acceptorAt, acceptorBytes}
 use Rattle.layouts.proofs.Parts.{flagged-whole, acceptor-length}
 use Rattle.yazhmandu.specs.Calls.{proposalNo, answerRecord, answerReply}
 
@@ -35,7 +35,7 @@ module _ (s : ℕ) (kept set old : List ℕ) where
   no-acceptor e = refused-by 1 refl (rw e)
 
   module _ (e : isAcceptor s kept ≡ true) where
-    pub no-set : eqb (length set) 8 ≡ false → Replied 3 kept old
+    pub no-set : eqb (length set) setSize ≡ false → Replied 3 kept old
     unfolding proposalNo isSet
     no-set f = refused-by 3 refl (rw (e, f))
 
@@ -47,7 +47,7 @@ module _ (s : ℕ) (kept set old : List ℕ) where
     unfolding isAcceptor acceptorInRange
     fitting = search (and-l, and-r) depth 9
 
-    module _ (f : eqb (length set) 8 ≡ true) where
+    module _ (f : eqb (length set) setSize ≡ true) where
       abbrev q : Acceptor
       q = acceptorAt kept
 
@@ -73,20 +73,20 @@ module _ (s : ℕ) (kept set old : List ℕ) where
             refused-by n (t .1) (same-number ∙ t .0)
 
         -- one that is answered
-        answered : (t : Bool) {w : Scans} {k b : List ℕ} → length old ≡ 9 → (answeringNo s q v ≡ 0) × (accepts q v ≡ t) × (w ≡ answering q v .accepted)
+        answered : (t : Bool) {w : Scans} {k b : List ℕ} → length old ≡ flaggedSize → (answeringNo s q v ≡ 0) × (accepts q v ≡ t) × (w ≡ answering q v .accepted)
             → k ≡ sets kept 0 (flagged (after .alive) (after .accepted)) → b ≡ sets old 0 (flagged t w) → Replied 0 k b
         unfolding answerRecord answerReply acceptorBytes
-        answered t {w} nine told g h =
+        answered t {w} whole told g h =
             let z : proposalNo s kept set ≡ 0 = same-number ∙ told .0 in
             let a : after ≡ answering q v = left ∙ record-left s q v (told .0) in
             let put = flagged-whole kept (after .alive) (after .accepted) (acceptor-length s kept e) in
-            let sent = flagged-whole old t w nine in
+            let sent = flagged-whole old t w whole in
             (sym z, rw z (g ∙ put ∙ ap (λ (p : Acceptor). flagged (p .alive) (p .accepted)) a), rw (z, told .1) (h ∙ sent ∙ ap (flagged t) (told .2)))
 
-        pub accepted-reply : {w : Scans} {k b : List ℕ} → length old ≡ 9 → r ≡ Accepted w
+        pub accepted-reply : {w : Scans} {k b : List ℕ} → length old ≡ flaggedSize → r ≡ Accepted w
             → k ≡ sets kept 0 (flagged (after .alive) (after .accepted)) → b ≡ sets old 0 (flagged true w) → Replied 0 k b
-        accepted-reply nine h = answered true nine (told-accepted s q v said h)
+        accepted-reply whole h = answered true whole (told-accepted s q v said h)
 
-        pub rejected-reply : {w : Scans} {k b : List ℕ} → length old ≡ 9 → r ≡ Rejected w
+        pub rejected-reply : {w : Scans} {k b : List ℕ} → length old ≡ flaggedSize → r ≡ Rejected w
             → k ≡ sets kept 0 (flagged (after .alive) (after .accepted)) → b ≡ sets old 0 (flagged false w) → Replied 0 k b
-        rejected-reply nine h = answered false nine (told-rejected s q v said h)
+        rejected-reply whole h = answered false whole (told-rejected s q v said h)

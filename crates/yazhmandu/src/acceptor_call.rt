@@ -3,10 +3,15 @@ ghost use mathlib.Core.Path.{_≡_};
 ghost use Rattle.yazhmandu.specs.Calls.{proposalNo, answerRecord, answerReply};
 use layouts::acceptors::acceptor_at;
 use layouts::acceptors::is_acceptor;
+use layouts::fields::FLAGGED_SIZE;
+use layouts::fields::SET_SIZE;
 use layouts::fields::put_flagged;
 use layouts::fields::set_at;
 use machine::acceptors::Reply;
 use machine::acceptors::answer_by_value;
+
+// A reply is a flag and a set.
+const REPLY_SIZE: usize = FLAGGED_SIZE as usize;
 
 // Takes a proposal's set. The record is updated, and `reply` tells whether it is accepted (0 or 1) and the set to send.
 // 1 for the number of scans and the record, 3 for the set, 5 where the acceptor has crashed.
@@ -15,7 +20,7 @@ pub extern "C" fn ymd_answer_proposal(
     scans: u64,
     kept: &mut [u8],
     set: &[u8],
-    reply: &mut [u8; 9],
+    reply: &mut [u8; REPLY_SIZE],
 ) -> u8
     ensures { λ r. ⌜ (r ≡ proposalNo scans (now (kept .entry)) (now (set .entry)))
         × (now (kept .exit) ≡ answerRecord scans (now (kept .entry)) (now (set .entry)))
@@ -24,7 +29,7 @@ pub extern "C" fn ymd_answer_proposal(
     if !is_acceptor(kept, scans) {
         return 1;
     }
-    if set.len() != 8 {
+    if set.len() != SET_SIZE as usize {
         return 3;
     }
     let before = acceptor_at(kept);

@@ -2,6 +2,7 @@ use mathlib.Core.Path.{_≡_}
 use lib.ListN.{length}
 use borrow.Author.Needs.{needs}
 use borrow.Author.Tests.{eq-eqb, ne-eqb}
+use Rattle.layouts.specs.Layout.{flaggedSize}
 use Rattle.layouts.proofs.Parts.{passed, failed}
 use Rattle.yazhmandu.proofs.Replying.{no-acceptor, no-set, accepted-reply, rejected-reply, refused-reply}
 use Rattle.yazhmandu.proofs.acceptor_call.ymd_answer_proposal.Statement.{statement}
@@ -17,6 +18,9 @@ returns : tie.Need-returns
 returns c =
     let a = c .before .before .before .before .before .args in
     no-acceptor (a .scans) (a .kept .now) (a .set .now) (a .reply .now) (failed (c .before .is-acceptor .ensures) (c .if1 .taken))
+
+cast-if2 : tie.Need-cast-if2
+cast-if2 c = search needs
 
 same-length-2 : tie.Need-same-length-2
 same-length-2 c = search needs
@@ -67,8 +71,8 @@ returns-3 c =
     let a = u .before .before .before .before .before .before .args in
     let e = passed (u .before .before .is-acceptor .ensures) (u .before .if1 .left) in
     let f = eq-eqb _ _ (u .if2 .left) in
-    let nine : length (a .reply .now) ≡ 9 = search needs in
-    accepted-reply (a .scans) (a .kept .now) (a .set .now) (a .reply .now) e f (t .before .before .acceptor-at .ensures) (t .before .set-at .ensures) (t .answer-by-value .ensures) nine (c .before .before .before .before .before .before .before .said .given .1) (c .before .before .before .before .put-flagged .ensures) (c .put-flagged2 .ensures)
+    let whole : length (a .reply .now) ≡ flaggedSize = search needs in
+    accepted-reply (a .scans) (a .kept .now) (a .set .now) (a .reply .now) e f (t .before .before .acceptor-at .ensures) (t .before .set-at .ensures) (t .answer-by-value .ensures) whole (c .before .before .before .before .before .before .before .said .given .1) (c .before .before .before .before .put-flagged .ensures) (c .put-flagged2 .ensures)
 
 same-length-4 : tie.Need-same-length-4
 same-length-4 c = search needs
@@ -80,8 +84,8 @@ returns-4 c =
     let a = u .before .before .before .before .before .before .args in
     let e = passed (u .before .before .is-acceptor .ensures) (u .before .if1 .left) in
     let f = eq-eqb _ _ (u .if2 .left) in
-    let nine : length (a .reply .now) ≡ 9 = search needs in
-    rejected-reply (a .scans) (a .kept .now) (a .set .now) (a .reply .now) e f (t .before .before .acceptor-at .ensures) (t .before .set-at .ensures) (t .answer-by-value .ensures) nine (c .before .before .before .before .before .before .before .said2 .given .1) (c .before .before .before .before .put-flagged3 .ensures) (c .put-flagged4 .ensures)
+    let whole : length (a .reply .now) ≡ flaggedSize = search needs in
+    rejected-reply (a .scans) (a .kept .now) (a .set .now) (a .reply .now) e f (t .before .before .acceptor-at .ensures) (t .before .set-at .ensures) (t .answer-by-value .ensures) whole (c .before .before .before .before .before .before .before .said2 .given .1) (c .before .before .before .before .put-flagged3 .ensures) (c .put-flagged4 .ensures)
 
 same-length-5 : tie.Need-same-length-5
 same-length-5 c = search needs
@@ -102,6 +106,7 @@ ymd-answer-proposal-spec =
     is-acceptor-requires
     same-length
     returns
+    cast-if2
     same-length-2
     returns-2
     acceptor-at-requires

@@ -1,5 +1,7 @@
 // The shelf question: where a crate was seen last, by the scans of its tag in a set.
 ghost use mathlib.Core.Path.{_≡_};
+ghost use Prim.Native.Nat.{_*_, _≤_};
+ghost use lib.ListN.{length};
 ghost use Rattle.choice.specs.Choice.{if_then_else_};
 ghost use Rattle.scan_table.specs.Table.{readTable};
 ghost use Rattle.shelf.specs.Shelf.{comesBefore, seenAt, isCandidate, better, newest, ask, whereIs, whereIsNo, whereIsWritten, whereIsWrittenNo, askedNo};
@@ -82,14 +84,14 @@ fn consider(fields: &[u64], found: Newest, number: ScanId, set: Scans, tag: u64)
 
 // The newest of the first scans of a table, of those in the set with the tag.
 fn newest_of(fields: &[u64], scans: u16, set: Scans, tag: u64) -> Newest
+    requires { ⌜ scans * 4 ≤ length (now fields) ⌝ }
     ensures { λ r. ⌜ r ≡ newest scans (now (fields .entry)) set tag ⌝ }
 {
     let mut found = Newest::Nothing;
     let mut i: u16 = 0;
     while i < scans {
-        let number = ScanId(i);
-        if scan_table::tag_at(fields, number) == tag {
-            found = consider(fields, found, number, set, tag);
+        if fields[i as usize * 4] == tag {
+            found = consider(fields, found, ScanId(i), set, tag);
         }
         i += 1;
     }
@@ -98,6 +100,7 @@ fn newest_of(fields: &[u64], scans: u16, set: Scans, tag: u64) -> Newest
 
 // The question on a table of so many scans that is in range.
 fn ask_of(fields: &[u64], scans: u16, set: Scans, tag: u64) -> Shelf
+    requires { ⌜ scans * 4 ≤ length (now fields) ⌝ }
     ensures { λ r. ⌜ r ≡ ask scans (now (fields .entry)) set tag ⌝ }
 {
     if 4_294_967_295 < tag {

@@ -5,6 +5,7 @@ use mathlib.Core.Logic.{⊎-elim}
 use Prim.Native.Nat.{_-_, _≤_}
 use native.Mathlib.Omega.{arith}
 use borrow.Author.Needs.{needs}
+use Rattle.scan_table.specs.Table.{scanAt}
 use Rattle.shelf.specs.Shelf.{newest}
 use Rattle.shelf.proofs.Asking.{newest-considered, newest-other}
 use Rattle.shelf.proofs.newest_of.Statement.{statement}
@@ -20,8 +21,17 @@ loop-holds : tie.Need-loop-holds Inv-loop μ-loop
 unfolding newest
 loop-holds c = search needs
 
-tag-at-requires : tie.Need-tag-at-requires Inv-loop μ-loop
-tag-at-requires c κs = search needs
+cast-if1 : tie.Need-cast-if1 Inv-loop μ-loop
+cast-if1 c = search needs
+
+mul-if1 : tie.Need-mul-if1 Inv-loop μ-loop
+mul-if1 c = search needs
+
+mul-if1-2 : tie.Need-mul-if1-2 Inv-loop μ-loop
+mul-if1-2 c = omega arith
+
+shared-slice-read-if1 : tie.Need-shared-slice-read-if1 Inv-loop μ-loop
+shared-slice-read-if1 c = omega arith
 
 consider-requires : tie.Need-consider-requires Inv-loop μ-loop
 consider-requires c κs = search needs
@@ -33,13 +43,14 @@ loop-less : tie.Need-loop-less Inv-loop μ-loop
 loop-less c = search needs
 
 loop-again : tie.Need-loop-again Inv-loop μ-loop
+unfolding scanAt
 loop-again c =
     let a = c .before .before .before .before .before .args in
     let l = c .before .before .before .loop in (
       omega arith,
       ⊎-elim
           (λ w. newest-considered (a .fields .now) (a .set) (a .tag) (l .i) (l .inv .1) (w .1 .ensures) (w .2))
-          (λ w. newest-other (a .fields .now) (a .set) (a .tag) (l .i) (w .1 ∙ l .inv .1) (λ q. w .0 .left (c .before .tag-at .ensures ∙ q)))
+          (λ w. newest-other (a .fields .now) (a .set) (a .tag) (l .i) (w .1 ∙ l .inv .1) (w .0 .left))
           (c .if1 .came),
     )
 
@@ -56,7 +67,10 @@ newest-of-spec =
     Inv-loop
     μ-loop
     loop-holds
-    tag-at-requires
+    cast-if1
+    mul-if1
+    mul-if1-2
+    shared-slice-read-if1
     consider-requires
     add-i
     loop-less

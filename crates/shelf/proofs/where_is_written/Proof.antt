@@ -30,7 +30,10 @@ cast-ask-of c =
     omega (arith, written-most (a .bytes .now) _ (sym (c .before .before .before .before .before .read-table .ensures .0) ∙ c .before .before .answer .given .1))
 
 ask-of-requires : tie.Need-ask-of-requires
-ask-of-requires c κs = search needs
+unfolding mostScans
+ask-of-requires c κs =
+    let a = c .before .before .before .before .before .before .before .before .args in
+    omega (arith, written-most (a .bytes .now) _ (sym (c .before .before .before .before .before .read-table .ensures .0) ∙ c .before .before .answer .given .1))
 
 enum-known-answer-2 : tie.Need-enum-known-answer-2
 enum-known-answer-2 c = search needs

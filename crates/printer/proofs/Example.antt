@@ -16,7 +16,7 @@ use Rattle.model.specs.Records.{fresh}
 use Rattle.model.specs.Table.{from}
 use Rattle.model.proofs.Computing.{theStep, settledAnswers, answers-settled}
 use Rattle.machine.specs.Calls.{eventsIn}
-use Rattle.printer.specs.Text.{lines, linesFrom, okCount, refusedCount, runText}
+use Rattle.printer.specs.Text.{setWidth, setText, lines, linesFrom, okCount, refusedCount, runText}
 use Rattle.printer.specs.Printing.{textOfRead, text}
 
 abbrev example : List ℕ
@@ -38,8 +38,8 @@ numbers-read = refl
 
 printed : textOfRead read
     ≡ bytes "1 ok\n2 ok\n3 ok\n4 refused 6\n5 ok\n5 learnt 0 0000000000000001\n6 ok\n7 ok\n7 decided 0 0000000000000001\nend 7 6 1\n"
-unfolding textOfRead from theStep settledAnswers lines linesFrom okCount refusedCount runText decimalOf hexOf bytes
-printed = ap runText (answers-settled sizes (fresh sizes) (eventsIn (drop 6 example) 7))
+unfolding textOfRead from theStep settledAnswers setWidth setText lines linesFrom okCount refusedCount runText decimalOf hexOf bytes
+printed = ap (runText 2) (answers-settled sizes (fresh sizes) (eventsIn (drop 6 example) 7))
 
 pub example-text : text example
     ≡ bytes "1 ok\n2 ok\n3 ok\n4 refused 6\n5 ok\n5 learnt 0 0000000000000001\n6 ok\n7 ok\n7 decided 0 0000000000000001\nend 7 6 1\n"

@@ -6,44 +6,55 @@ use native.Mathlib.Omega.{arith}
 use lib.ListN.{length, length-append}
 use Rattle.sets.specs.declared.LearnerId.{LearnerId}
 use Rattle.sets.specs.declared.ProposerId.{ProposerId}
+use Rattle.sets.specs.Scans.{firstWord}
 use Rattle.sets.specs.declared.scans.Scans.{Scans}
 use Rattle.model.specs.declared.Answer.{Answer}
 use Rattle.model.specs.declared.Answer.the-variants.{Ok, Learnt, Decided, Refused}
 use Rattle.text.specs.Words.{bytes}
 use Rattle.text.specs.Digits.{decimal}
 use Rattle.text.proofs.DigitLaws.{decimal-most, hex-length}
-use Rattle.printer.specs.Text.{lines, linesFrom, endWith, refusedText}
+use Rattle.printer.specs.Text.{setWidth, setText, widestSet, lines, linesFrom, endWith, refusedText}
+
+-- ---- a set
+
+pub set-length : (s : ℕ) (v : Scans) → length (setText s v) ≡ setWidth s
+unfolding setText
+set-length s v = hex-length (setWidth s) (firstWord v)
+
+pub width-most : (s : ℕ) → setWidth s ≤ widestSet
+unfolding setWidth
+width-most s = omega arith
 
 -- ---- one event
 
-module _ (place : ℕ) where
-  pub ok-length : length (lines place Ok) ≡ length (decimal place) + 4
+module _ (s place : ℕ) where
+  pub ok-length : length (lines s place Ok) ≡ length (decimal place) + 4
   unfolding lines bytes
   ok-length = simp length-append
 
-  pub learnt-length : (l : LearnerId) (v : Scans) → length (lines place (Learnt l v)) ≡ 2 * length (decimal place) + 30 + length (decimal (l .0))
+  pub learnt-length : (l : LearnerId) (v : Scans) → length (lines s place (Learnt l v)) ≡ 2 * length (decimal place) + 14 + setWidth s + length (decimal (l .0))
   unfolding lines bytes
-  learnt-length l v = simp (length-append, hex-length) (omega arith)
+  learnt-length l v = simp (length-append, set-length) (omega arith)
 
-  pub decided-length : (p : ProposerId) (v : Scans) → length (lines place (Decided p v)) ≡ 2 * length (decimal place) + 31 + length (decimal (p .0))
+  pub decided-length : (p : ProposerId) (v : Scans) → length (lines s place (Decided p v)) ≡ 2 * length (decimal place) + 15 + setWidth s + length (decimal (p .0))
   unfolding lines bytes
-  decided-length p v = simp (length-append, hex-length) (omega arith)
+  decided-length p v = simp (length-append, set-length) (omega arith)
 
-  pub refused-length : (n : ℕ) → length (lines place (Refused n)) ≡ length (decimal place) + 10 + length (decimal n)
+  pub refused-length : (n : ℕ) → length (lines s place (Refused n)) ≡ length (decimal place) + 10 + length (decimal n)
   unfolding lines bytes
   refused-length n = simp length-append (omega arith)
 
--- at most 91 bytes, whatever the numbers are
-pub lines-most : (place : ℕ) (w : Answer) → length (lines place w) ≤ 91
-lines-most place Ok = omega (arith, ok-length place, decimal-most 20 place)
-lines-most place (Learnt l v) = omega (arith, learnt-length place l v, decimal-most 20 place, decimal-most 20 (l .0))
-lines-most place (Decided p v) = omega (arith, decided-length place p v, decimal-most 20 place, decimal-most 20 (p .0))
-lines-most place (Refused n) = omega (arith, refused-length place n, decimal-most 20 place, decimal-most 20 n)
+-- at most 75 bytes and a set, whatever the numbers are
+pub lines-most : (s place : ℕ) (w : Answer) → length (lines s place w) ≤ 75 + widestSet
+lines-most s place Ok = omega (arith, ok-length s place, decimal-most 20 place)
+lines-most s place (Learnt l v) = omega (arith, learnt-length s place l v, width-most s, decimal-most 20 place, decimal-most 20 (l .0))
+lines-most s place (Decided p v) = omega (arith, decided-length s place p v, width-most s, decimal-most 20 place, decimal-most 20 (p .0))
+lines-most s place (Refused n) = omega (arith, refused-length s place n, decimal-most 20 place, decimal-most 20 n)
 
-pub lines-from-most : (place : ℕ) (ws : List Answer) → length (linesFrom place ws) ≤ 91 * length ws
+pub lines-from-most : (s place : ℕ) (ws : List Answer) → length (linesFrom s place ws) ≤ (75 + widestSet) * length ws
 unfolding linesFrom
-lines-from-most place [] = omega arith
-lines-from-most place (w ∷ ws) = rw (length-append (lines place w) (linesFrom (suc place) ws)) (omega (arith, lines-most place w, lines-from-most (suc place) ws))
+lines-from-most s place [] = omega arith
+lines-from-most s place (w ∷ ws) = rw (length-append (lines s place w) (linesFrom s (suc place) ws)) (omega (arith, lines-most s place w, lines-from-most s (suc place) ws))
 
 -- ---- the other texts
 

@@ -66,11 +66,11 @@ module _ (z : Sizes) (ns log : List ℕ) (n : ℕ) (h : sizesInRange z ≡ true)
       (ap (answersIn (logged ws log)) (sym many) ∙ read-back ws (drop (2 * length ws) log) (all-answers Small (named-small z h) (all-named z (fresh z) (eventsIn ns n))))
 
   pub run-printed : (buffer log′ : List ℕ) (r : Written) (left : List ℕ) → log′ ≡ logAfterWholeRun z ns n log
-      → (r ≡ textWritten (runText (answersIn log′ n)) buffer) × (left ≡ afterText (runText (answersIn log′ n)) buffer)
+      → (r ≡ textWritten (runText (z .scans) (answersIn log′ n)) buffer) × (left ≡ afterText (runText (z .scans) (answersIn log′ n)) buffer)
       → (r ≡ textWritten (textOfRun z ns n) buffer) × (left ≡ afterText (textOfRun z ns n) buffer)
   run-printed buffer log′ r left e p =
       let w : answersIn log′ n ≡ answers z (fresh z) (eventsIn ns n) = ap (λ (l : List ℕ). answersIn l n) e ∙ run-log in
-      (p .0 ∙ ap (λ (ws : List Answer). textWritten (runText ws) buffer) w, p .1 ∙ ap (λ (ws : List Answer). afterText (runText ws) buffer) w)
+      (p .0 ∙ ap (λ (ws : List Answer). textWritten (runText (z .scans) ws) buffer) w, p .1 ∙ ap (λ (ws : List Answer). afterText (runText (z .scans) ws) buffer) w)
 
 -- ---- the events of a schedule that is read
 
@@ -108,7 +108,7 @@ module _ (bytes room : List ℕ) (size : length room ≡ 12_288) where
         sizes = rw (← k) (w .right .sizes);
         few = rw (← k) (w .right .count);
         numbers = rw (e, ← f .1, length-sets room 0 fields, ← k) (omega (arith, w .right .count));
-        same = rw (e, ← f .1, ← k) (ap (λ (es : List Event). runText (answers (g .sizes) (fresh (g .sizes)) es)) (events-in-room room fields (g .events) (omega (arith, w .count)) (omega (arith, w .count, w .right .count))));
+        same = rw (e, ← f .1, ← k) (ap (λ (es : List Event). runText (g .sizes .scans) (answers (g .sizes) (fresh (g .sizes)) es)) (events-in-room room fields (g .events) (omega (arith, w .count)) (omega (arith, w .count, w .right .count))));
       }
   ran-by (unread r) e h q = absurd (let y : schedule.Refused r ≡ schedule.Events h = ap scheduleAnswer (form-refused Header room r .0) ∙ q in let z : _≡_ {A = ℕ} 0 1 = cc in omega arith)
 
@@ -139,7 +139,7 @@ text-by bytes (readAs h fields) e =
     let w = schedule-whole bytes e .right in
     let z = h .sizes in
     let es = eventsIn fields (h .events) in
-    longest (answers z (fresh z) es) (omega (arith, length-answers z (fresh z) es, length-from (eventOf fields) 0 (h .events), w .count)) (all-answers Short (named-short z (w .sizes)) (all-named z (fresh z) es))
+    longest (z .scans) (answers z (fresh z) es) (omega (arith, length-answers z (fresh z) es, length-from (eventOf fields) 0 (h .events), w .count)) (all-answers Short (named-short z (w .sizes)) (all-named z (fresh z) es))
 text-by bytes (unread r) e = omega (arith, refusal-length (r .no), decimal-most 20 (r .no))
 
 -- whatever the bytes are

@@ -12,7 +12,7 @@ use Rattle.printer.specs.Text.{runText, refusedText}
 
 -- the text of a run of n events, three numbers each, from fresh
 abbrev pub textOfRun : Sizes → List ℕ → ℕ → List ℕ
-textOfRun z ns n = runText (answers z (fresh z) (eventsIn ns n))
+textOfRun z ns n = runText (z .scans) (answers z (fresh z) (eventsIn ns n))
 
 -- of a schedule that is read, by its header and the numbers of its events; or of its refusal
 unfoldable pub textOfRead : FormRead Header → List ℕ

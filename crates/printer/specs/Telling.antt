@@ -30,7 +30,7 @@ pub record Tells (bytes : List ℕ) (z : Sizes) (es : List Event) : Type 0 where
   -- the bytes are the written form of these sizes and these events, and nothing else
   pub written : bytes ≡ scheduleForm z (eventNumbers es)
   -- the text is the lines of what a run of these events from fresh answers
-  pub printed : text bytes ≡ runText (answers z (fresh z) es)
+  pub printed : text bytes ≡ runText (z .scans) (answers z (fresh z) es)
   -- of this run demand 3 holds
   pub safe : Safe z es
   -- a set that a line says is learnt or decided is so right after that line's event

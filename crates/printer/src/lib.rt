@@ -7,14 +7,14 @@ ghost use lib.ListN.{length};
 ghost use Rattle.choice.specs.Choice.{if_then_else_};
 ghost use Rattle.numbers.specs.Coding.{writtenNo};
 ghost use Rattle.text.specs.Words.{bytes};
-ghost use Rattle.text.specs.Digits.{decimal, hex};
+ghost use Rattle.text.specs.Digits.{decimal};
 ghost use Rattle.model.specs.Step.{answerNo};
 ghost use mathlib.Core.Bool.{true};
 ghost use Rattle.sizes.specs.Sizes.{sizesInRange};
 ghost use Rattle.sizes.specs.Events.{mostEvents};
 ghost use Rattle.printer.specs.Adds.{Adds};
 ghost use Rattle.printer.specs.Log.{readAnswerOf, answerAt, answersIn};
-ghost use Rattle.printer.specs.Text.{refusedLine, setLine, lines, linesFrom, okCount, endWith, runText, refusedText, textWritten, afterText, textWrittenNo};
+ghost use Rattle.printer.specs.Text.{setWidth, setText, refusedLine, setLine, lines, linesFrom, okCount, endWith, runText, refusedText, textWritten, afterText, textWrittenNo};
 ghost use Rattle.printer.specs.Printing.{textOfRun, text};
 use model::Answer;
 use numbers::Refusal;
@@ -57,18 +57,28 @@ fn answer_at(log: &[u64], k: usize) -> Answer
     answer_of(log[2 * k], log[2 * k + 1])
 }
 
-// How many bytes the lines of an event take: its numbers, 16 digits of a set, and the words with their spaces and line ends.
-fn lines_length(place: u64, answer: Answer) -> usize
-    ensures { λ r. ⌜ r ≡ length (lines place answer) ⌝ }
+// How many digits a set has in a run of so many scans.
+fn set_width(scans: u16) -> usize
+    ensures { λ r. ⌜ r ≡ setWidth scans ⌝ }
+{
+    16
+}
+
+// How many bytes the lines of an event take: its numbers, the digits of a set, and the words with their spaces and line ends.
+fn lines_length(scans: u16, place: u64, answer: Answer) -> usize
+    ensures { λ r. ⌜ r ≡ length (lines scans place answer) ⌝ }
 {
     let width = text::decimal_width(place);
+    let digits = set_width(scans);
     match answer {
         Answer::Ok => width + 4,
         Answer::Learnt { learner, set: _ } => 2 * width
-            + 30
+            + 14
+            + digits
             + text::decimal_width(learner.0 as u64),
         Answer::Decided { proposer, set: _ } => 2 * width
-            + 31
+            + 15
+            + digits
             + text::decimal_width(proposer.0 as u64),
         Answer::Refused(no) => width + 10 + text::decimal_width(no as u64),
     }
@@ -107,9 +117,9 @@ struct Tally {
     ok: u64,
 }
 
-fn count_events(log: &[u64], n: usize) -> Tally
+fn count_events(scans: u16, log: &[u64], n: usize) -> Tally
     requires { ⌜ (2 * n ≤ length (now log)) × (n ≤ 65535) ⌝ }
-    ensures { λ r. ⌜ (r .length ≡ length (linesFrom 1 (answersIn (now (log .entry)) n)))
+    ensures { λ r. ⌜ (r .length ≡ length (linesFrom scans 1 (answersIn (now (log .entry)) n)))
         × (r .ok ≡ okCount (answersIn (now (log .entry)) n)) ⌝ }
 {
     let mut length: usize = 0;
@@ -117,7 +127,7 @@ fn count_events(log: &[u64], n: usize) -> Tally
     let mut k: usize = 0;
     while k < n {
         let answer = answer_at(log, k);
-        length += lines_length((k + 1) as u64, answer);
+        length += lines_length(scans, (k + 1) as u64, answer);
         ok += ok_one(answer);
         k += 1;
     }
@@ -143,13 +153,13 @@ fn add_number(buffer: &mut [u8], at: usize, value: u64, word: &[u8]) -> usize
     add_word(buffer, at + text::decimal_width(value), word)
 }
 
-// A set, which ends its line.
-fn add_set(buffer: &mut [u8], at: usize, set: u64) -> usize
-    requires { ⌜ at + length (hex set ++ bytes "\n") ≤ length (now buffer) ⌝ }
-    ensures { λ r. ⌜ Adds (hex set ++ bytes "\n") (now (buffer .entry)) at r (now (buffer .exit)) ⌝ }
+// A set of a run of so many scans, which ends its line.
+fn add_set(buffer: &mut [u8], at: usize, scans: u16, set: Scans) -> usize
+    requires { ⌜ at + length (setText scans set ++ bytes "\n") ≤ length (now buffer) ⌝ }
+    ensures { λ r. ⌜ Adds (setText scans set ++ bytes "\n") (now (buffer .entry)) at r (now (buffer .exit)) ⌝ }
 {
-    text::put_hex(buffer, at, set);
-    add_word(buffer, at + 16, b"\n")
+    text::put_hex(buffer, at, set.first_word());
+    add_word(buffer, at + set_width(scans), b"\n")
 }
 
 fn add_refused_line(buffer: &mut [u8], at: usize, place: u64, no: u64) -> usize
@@ -163,39 +173,49 @@ fn add_refused_line(buffer: &mut [u8], at: usize, place: u64, no: u64) -> usize
 fn add_set_line(
     buffer: &mut [u8],
     at: usize,
+    scans: u16,
     place: u64,
     word: &[u8],
     party: u64,
-    set: u64,
+    set: Scans,
 ) -> usize
-    requires { ⌜ at + length (setLine place (now word) party set) ≤ length (now buffer) ⌝ }
-    ensures { λ r. ⌜ Adds (setLine place (now (word .entry)) party set) (now (buffer .entry)) at r (now (buffer .exit)) ⌝ }
+    requires { ⌜ at + length (setLine scans place (now word) party set) ≤ length (now buffer) ⌝ }
+    ensures { λ r. ⌜ Adds (setLine scans place (now (word .entry)) party set) (now (buffer .entry)) at r (now (buffer .exit)) ⌝ }
 {
     let of_party = add_number(buffer, at, place, word);
     let of_set = add_number(buffer, of_party, party, b" ");
-    add_set(buffer, of_set, set)
+    add_set(buffer, of_set, scans, set)
 }
 
 // The lines of an event.
-fn add_lines(buffer: &mut [u8], at: usize, place: u64, answer: Answer) -> usize
-    requires { ⌜ at + length (lines place answer) ≤ length (now buffer) ⌝ }
-    ensures { λ r. ⌜ Adds (lines place answer) (now (buffer .entry)) at r (now (buffer .exit)) ⌝ }
+fn add_lines(buffer: &mut [u8], at: usize, scans: u16, place: u64, answer: Answer) -> usize
+    requires { ⌜ at + length (lines scans place answer) ≤ length (now buffer) ⌝ }
+    ensures { λ r. ⌜ Adds (lines scans place answer) (now (buffer .entry)) at r (now (buffer .exit)) ⌝ }
 {
     match answer {
         Answer::Ok => add_number(buffer, at, place, b" ok\n"),
         Answer::Learnt { learner, set } => {
             let next = add_number(buffer, at, place, b" ok\n");
-            add_set_line(buffer, next, place, b" learnt ", learner.0 as u64, set.bits)
+            add_set_line(
+                buffer,
+                next,
+                scans,
+                place,
+                b" learnt ",
+                learner.0 as u64,
+                set,
+            )
         }
         Answer::Decided { proposer, set } => {
             let next = add_number(buffer, at, place, b" ok\n");
             add_set_line(
                 buffer,
                 next,
+                scans,
                 place,
                 b" decided ",
                 proposer.0 as u64,
-                set.bits,
+                set,
             )
         }
         Answer::Refused(no) => add_refused_line(buffer, at, place, no as u64),
@@ -203,15 +223,15 @@ fn add_lines(buffer: &mut [u8], at: usize, place: u64, answer: Answer) -> usize
 }
 
 // The lines of the first n events of a log.
-fn add_events(buffer: &mut [u8], log: &[u64], n: usize) -> usize
-    requires { ⌜ (2 * n ≤ length (now log)) × (length (linesFrom 1 (answersIn (now log) n)) ≤ length (now buffer)) ⌝ }
-    ensures { λ r. ⌜ Adds (linesFrom 1 (answersIn (now (log .entry)) n)) (now (buffer .entry)) 0 r (now (buffer .exit)) ⌝ }
+fn add_events(buffer: &mut [u8], scans: u16, log: &[u64], n: usize) -> usize
+    requires { ⌜ (2 * n ≤ length (now log)) × (length (linesFrom scans 1 (answersIn (now log) n)) ≤ length (now buffer)) ⌝ }
+    ensures { λ r. ⌜ Adds (linesFrom scans 1 (answersIn (now (log .entry)) n)) (now (buffer .entry)) 0 r (now (buffer .exit)) ⌝ }
 {
     let mut next: usize = 0;
     let mut k: usize = 0;
     while k < n {
         let answer = answer_at(log, k);
-        next = add_lines(buffer, next, (k + 1) as u64, answer);
+        next = add_lines(buffer, next, scans, (k + 1) as u64, answer);
         k += 1;
     }
     next
@@ -227,21 +247,21 @@ fn add_end_line(buffer: &mut [u8], at: usize, events: u64, ok: u64, refused: u64
     add_number(buffer, of_refused, refused, b"\n")
 }
 
-// The text of a run whose answers stand in a log.
-fn print_log(buffer: &mut [u8], log: &[u64], n: u16) -> Written
+// The text of a run of so many scans whose answers stand in a log.
+fn print_log(buffer: &mut [u8], scans: u16, log: &[u64], n: u16) -> Written
     requires { ⌜ 2 * n ≤ length (now log) ⌝ }
-    ensures { λ r. ⌜ (r ≡ textWritten (runText (answersIn (now (log .entry)) n)) (now (buffer .entry)))
-        × (now (buffer .exit) ≡ afterText (runText (answersIn (now (log .entry)) n)) (now (buffer .entry))) ⌝ }
+    ensures { λ r. ⌜ (r ≡ textWritten (runText scans (answersIn (now (log .entry)) n)) (now (buffer .entry)))
+        × (now (buffer .exit) ≡ afterText (runText scans (answersIn (now (log .entry)) n)) (now (buffer .entry))) ⌝ }
 {
     let events = n as usize;
-    let counts = count_events(log, events);
+    let counts = count_events(scans, log, events);
     let ok = counts.ok;
     let refused = events as u64 - ok;
     let length = counts.length + end_line_length(events as u64, ok, refused);
     if buffer.len() < length {
         return Written::Refused(Refusal { no: 8 });
     }
-    let next = add_events(buffer, log, events);
+    let next = add_events(buffer, scans, log, events);
     Written::Next(add_end_line(buffer, next, events as u64, ok, refused))
 }
 
@@ -272,7 +292,7 @@ fn print_run(buffer: &mut [u8], events: &[u64], header: Header) -> Written
 {
     let mut log: [u64; MOST_ANSWERS] = [0; MOST_ANSWERS];
     machine::calls::whole_run(header.sizes, events, &mut log, header.events);
-    print_log(buffer, &log, header.events)
+    print_log(buffer, header.sizes.scans, &log, header.events)
 }
 
 // What the bytes of a schedule print: the text goes into the buffer, and its length is answered.

@@ -31,7 +31,7 @@ use Rattle.model.proofs.Computing.{theSets, theStep, settledRun, run-settled}
 use Rattle.model.proofs.Examples.{seven-answers}
 use Rattle.machine.specs.Calls.{eventsIn, hasNumbers, logged, runNo, afterRun, logAfterRun, wholeRunNo, logAfterWholeRun}
 use Rattle.printer.specs.Log.{answersIn}
-use Rattle.printer.specs.Text.{lines, linesFrom, okCount, refusedCount, endWith, endLine, runText, textWritten, afterText}
+use Rattle.printer.specs.Text.{setWidth, setText, lines, linesFrom, okCount, refusedCount, endWith, endLine, runText, textWritten, afterText}
 use Rattle.printer.specs.Printing.{textOfRead, text}
 use Rattle.printer.proofs.ReadBack.{Small, read-back}
 use Rattle.printer.proofs.Example.{example-text}
@@ -136,22 +136,22 @@ module _ (f : PrintProgram) (k : PrintKept f) (buffer : List ℕ) where
       (shown-by (text bytes) buffer (leb (0 + length (text bytes)) (length buffer)) refl)
 
   -- a text of a run is the whole text
-  run-shown : (bytes : List ℕ) (ws : List Answer) (a b c : ℕ) → printed (f buffer bytes) ≡ linesFrom 1 ws ++ endWith a b c → text bytes ≡ linesFrom 1 ws ++ endWith a b c
-  run-shown bytes ws a b c e = elim (text-shown bytes) [
-    | inl h ↦ absurd (nothing-no-run ws a b c (sym h ∙ e))
+  run-shown : (bytes : List ℕ) (s : ℕ) (ws : List Answer) (a b c : ℕ) → printed (f buffer bytes) ≡ linesFrom s 1 ws ++ endWith a b c → text bytes ≡ linesFrom s 1 ws ++ endWith a b c
+  run-shown bytes s ws a b c e = elim (text-shown bytes) [
+    | inl h ↦ absurd (nothing-no-run s ws a b c (sym h ∙ e))
     | inr h ↦ sym h ∙ e
   ]
 
 -- its last line is that of its lines
-counts-true : (o : FormRead Header) (ws : List Answer) (a b c : ℕ) → textOfRead o ≡ linesFrom 1 ws ++ endWith a b c → endWith a b c ≡ endLine ws
+counts-true : (o : FormRead Header) (s : ℕ) (ws : List Answer) (a b c : ℕ) → textOfRead o ≡ linesFrom s 1 ws ++ endWith a b c → endWith a b c ≡ endLine ws
 unfolding textOfRead
-counts-true (readAs h fields) ws a b c e =
+counts-true (readAs h fields) s ws a b c e =
     let z = h .sizes in
-    one-text z (all-named z (fresh z) (eventsIn fields (h .events))) ws a b c (sym e) .1
-counts-true (unread r) ws a b c e = absurd (refusal-no-run (r .no) ws a b c e)
+    one-text z (all-named z (fresh z) (eventsIn fields (h .events))) s ws a b c (sym e) .1
+counts-true (unread r) s ws a b c e = absurd (refusal-no-run (r .no) s ws a b c e)
 
-example-says : text example ≡ runText seven
-unfolding theSets lines linesFrom okCount refusedCount runText decimalOf hexOf bytes
+example-says : text example ≡ runText (small .scans) seven
+unfolding theSets setWidth setText lines linesFrom okCount refusedCount runText decimalOf hexOf bytes
 example-says = example-text
 
 -- ---- what is said, and what is left
@@ -164,7 +164,7 @@ says-seven (Says.bySteps f k) = is-alike (steps-say f k small (fresh small) (eve
 says-seven (Says.byRun f k log h) =
     is-alike (ap (λ (l : List ℕ). answersIn l 7) (k small (fresh small) numbers 7 log .1 .1 ∙ run-log log h) ∙ logged-back log h)
 says-seven (Says.byWholeRun f k log h) = is-alike (ap (λ (l : List ℕ). answersIn l 7) (k small numbers 7 log .1 ∙ whole-log log h) ∙ logged-back log h)
-says-seven (Says.byText f k buffer ws a b c e) = one-text small all-seven ws a b c (sym (run-shown f k buffer example ws a b c e) ∙ example-says) .0
+says-seven (Says.byText f k buffer s ws a b c e) = one-text small all-seven s ws a b c (sym (run-shown f k buffer example s ws a b c e) ∙ example-says) .0
 
 leaves-run : {t : State} → LeftBehind t → t ≡ run small (fresh small) (eventsIn numbers 7)
 leaves-run (LeftBehind.bySteps f k) = steps-leave f k small (fresh small) (eventsIn numbers 7)
@@ -221,4 +221,4 @@ pretends-rejected = (
 -- whatever is printed, of any schedule
 pub counts-rejected : (f : PrintProgram) → PrintKept f → (buffer bytes : List ℕ) → InventsCounts (printed (f buffer bytes)) → ⊥
 counts-rejected f k buffer bytes x =
-    x .invented (counts-true (readSchedule bytes) (x .said) (x .events) (x .ok) (x .refused) (run-shown f k buffer bytes (x .said) (x .events) (x .ok) (x .refused) (x .lines)))
+    x .invented (counts-true (readSchedule bytes) (x .scans) (x .said) (x .events) (x .ok) (x .refused) (run-shown f k buffer bytes (x .scans) (x .said) (x .events) (x .ok) (x .refused) (x .lines)))

@@ -11,15 +11,17 @@ use borrow.Author.Tests.{ltb-true, lt-ltb, ne-eqb}
 use Rattle.choice.specs.Choice.{if_then_else_}
 use Rattle.choice.proofs.Tests.{if-ind}
 use Rattle.text.specs.Words.{bytes}
-use Rattle.text.specs.Digits.{digit, decimalOf, decimal, hexOf, hex}
+use Rattle.text.specs.Digits.{digit, decimalOf, decimal, hexOf}
 use Rattle.text.proofs.DigitLaws.{decimal-last, decimal-some}
+use Rattle.sets.specs.Scans.{firstWord}
+use Rattle.sets.specs.declared.scans.Scans.{Scans}
 use Rattle.sizes.specs.declared.Sizes.{Sizes}
 use Rattle.model.specs.Step.{answerNo}
 use Rattle.model.specs.declared.Answer.{Answer}
 use Rattle.model.specs.declared.Answer.the-variants.{Ok, Learnt, Decided, Refused}
 use Rattle.model.proofs.Lists.{All, none, also}
 use Rattle.model.proofs.Answers.{Named, namesNone, namesLearner, namesProposer, namesRefusal}
-use Rattle.printer.specs.Text.{okLine, setLine, lines, linesFrom, okCount, refusedCount, endWith, endLine, runText, refusedText}
+use Rattle.printer.specs.Text.{setWidth, setText, okLine, setLine, lines, linesFrom, okCount, refusedCount, endWith, endLine, runText, refusedText}
 
 -- ---- a reader of texts, byte by byte
 
@@ -137,9 +139,9 @@ the-party : (n : ℕ) → Reads rest (decimal n) [] rest
 unfolding adding
 the-party n = record { reads = λ xs. pass-rest (least (decimal-digits 20 n)) xs }
 
-the-set : (v : ℕ) → Reads rest (hex v) [] rest
-unfolding adding
-the-set v = record { reads = λ xs. pass-rest (hex-digits 16 v) xs }
+the-set : (s : ℕ) (v : Scans) → Reads rest (setText s v) [] rest
+unfolding adding setText
+the-set s v = record { reads = λ xs. pass-rest (hex-digits (setWidth s) (firstWord v)) xs }
 
 -- ---- lines
 
@@ -174,8 +176,8 @@ refused-schedule = record { reads = λ xs. refl }
 ok-line : (at : ℕ) → Reads begin (okLine at) (0 ∷ []) begin
 ok-line at = joined (the-place at) ok-word
 
-set-line : (at : ℕ) (name : List ℕ) (party set : ℕ) → Reads place name [] rest → Reads begin (setLine at name party set) [] begin
-set-line at name party set h = joined (joined (joined (joined (joined (the-place at) h) (the-party party)) space) (the-set set)) line-end
+set-line : (s at : ℕ) (name : List ℕ) (party : ℕ) (v : Scans) → Reads place name [] rest → Reads begin (setLine s at name party v) [] begin
+set-line s at name party v h = joined (joined (joined (joined (joined (the-place at) h) (the-party party)) space) (the-set s v)) line-end
 
 mark : Answer → ℕ
 mark Ok = 0
@@ -183,17 +185,17 @@ mark (Learnt l v) = 0
 mark (Decided p v) = 0
 mark (Refused n) = getD (decimal n) 0 0
 
-event-lines : (at : ℕ) (w : Answer) → Reads begin (lines at w) (mark w ∷ []) begin
+event-lines : (s at : ℕ) (w : Answer) → Reads begin (lines s at w) (mark w ∷ []) begin
 unfolding lines mark
-event-lines at Ok = ok-line at
-event-lines at (Learnt l v) = joined (ok-line at) (set-line at (bytes " learnt ") (l .0) (v .bits) learnt-word)
-event-lines at (Decided p v) = joined (ok-line at) (set-line at (bytes " decided ") (p .0) (v .bits) decided-word)
-event-lines at (Refused n) = joined (joined (joined (the-place at) refused-word) (the-refusal n)) line-end
+event-lines s at Ok = ok-line at
+event-lines s at (Learnt l v) = joined (ok-line at) (set-line s at (bytes " learnt ") (l .0) v learnt-word)
+event-lines s at (Decided p v) = joined (ok-line at) (set-line s at (bytes " decided ") (p .0) v decided-word)
+event-lines s at (Refused n) = joined (joined (joined (the-place at) refused-word) (the-refusal n)) line-end
 
-all-lines : (at : ℕ) (ws : List Answer) → Reads begin (linesFrom at ws) (map mark ws) begin
+all-lines : (s at : ℕ) (ws : List Answer) → Reads begin (linesFrom s at ws) (map mark ws) begin
 unfolding linesFrom adding
-all-lines at [] = record { reads = λ xs. refl }
-all-lines at (w ∷ ws) = joined (event-lines at w) (all-lines (suc at) ws)
+all-lines s at [] = record { reads = λ xs. refl }
+all-lines s at (w ∷ ws) = joined (event-lines s at w) (all-lines s (suc at) ws)
 
 -- ---- a text
 
@@ -201,10 +203,10 @@ end-read : (a b c : ℕ) → reading begin (endWith a b c) ≡ record { marks = 
 unfolding reading noting bytes
 end-read a b c = refl
 
-run-read : (ws : List Answer) (a b c : ℕ) → reading begin (linesFrom 1 ws ++ endWith a b c) ≡ record { marks = map mark ws; last = endWith a b c }
+run-read : (s : ℕ) (ws : List Answer) (a b c : ℕ) → reading begin (linesFrom s 1 ws ++ endWith a b c) ≡ record { marks = map mark ws; last = endWith a b c }
 unfolding adding
-run-read ws a b c =
-    all-lines 1 ws .reads (endWith a b c)
+run-read s ws a b c =
+    all-lines s 1 ws .reads (endWith a b c)
     ∙ ap (adding (map mark ws)) (end-read a b c)
     ∙ ap (λ (ms : List ℕ). record { marks = ms; last = endWith a b c }) (append-nil (map mark ws))
 
@@ -218,17 +220,17 @@ unfolding reading adding
 refusal-read n = ap (λ (t : List ℕ). reading begin t .last) (sym (append-nil (refusedText n))) ∙ ap (λ (r : Reading). r .last) (refusal-text n .reads [])
 
 -- what has no last line is no text of a run
-no-run : (t : List ℕ) → reading begin t .last ≡ [] → (ws : List Answer) (a b c : ℕ) → t ≡ linesFrom 1 ws ++ endWith a b c → ⊥
+no-run : (t : List ℕ) → reading begin t .last ≡ [] → (s : ℕ) (ws : List Answer) (a b c : ℕ) → t ≡ linesFrom s 1 ws ++ endWith a b c → ⊥
 unfolding bytes
-no-run t h ws a b c e =
-    let q : endWith a b c ≡ [] = sym (ap (λ (r : Reading). r .last) (ap (reading begin) e ∙ run-read ws a b c)) ∙ h in
+no-run t h s ws a b c e =
+    let q : endWith a b c ≡ [] = sym (ap (λ (r : Reading). r .last) (ap (reading begin) e ∙ run-read s ws a b c)) ∙ h in
     let x : _≡_ {A = ℕ} 101 0 = ap (λ (l : List ℕ). getD l 0 0) q in
     omega arith
 
-pub refusal-no-run : (n : ℕ) (ws : List Answer) (a b c : ℕ) → refusedText n ≡ linesFrom 1 ws ++ endWith a b c → ⊥
+pub refusal-no-run : (n s : ℕ) (ws : List Answer) (a b c : ℕ) → refusedText n ≡ linesFrom s 1 ws ++ endWith a b c → ⊥
 refusal-no-run n = no-run (refusedText n) (refusal-read n)
 
-pub nothing-no-run : (ws : List Answer) (a b c : ℕ) → [] ≡ linesFrom 1 ws ++ endWith a b c → ⊥
+pub nothing-no-run : (s : ℕ) (ws : List Answer) (a b c : ℕ) → [] ≡ linesFrom s 1 ws ++ endWith a b c → ⊥
 unfolding reading
 nothing-no-run = no-run [] refl
 
@@ -316,11 +318,11 @@ later-verdicts (w ∷ ws) = refl
 pub later-alike : {ws us : List Answer} → Alike ws us → Alike (drop 1 ws) (drop 1 us)
 later-alike {ws} {us} e = record { same = later-verdicts ws ∙ ap (drop 1) (e .same) ∙ sym (later-verdicts us) }
 
--- lines and a last line that are a run's text: the lines say of each event what the run says, and the last line is theirs
-pub one-text : (z : Sizes) {us : List Answer} → All (Named z) us → (ws : List Answer) (a b c : ℕ) → linesFrom 1 ws ++ endWith a b c ≡ runText us
+-- lines, of whatever number of scans, and a last line that are a run's text: the lines say of each event what the run says, and the last line is theirs
+pub one-text : (z : Sizes) {us : List Answer} → All (Named z) us → (s : ℕ) (ws : List Answer) (a b c : ℕ) → linesFrom s 1 ws ++ endWith a b c ≡ runText (z .scans) us
     → Alike ws us × (endWith a b c ≡ endLine ws)
 unfolding runText
-one-text z {us} n ws a b c e =
-    let r = sym (run-read ws a b c) ∙ ap (reading begin) e ∙ run-read us (length us) (okCount us) (refusedCount us) in
+one-text z {us} n s ws a b c e =
+    let r = sym (run-read s ws a b c) ∙ ap (reading begin) e ∙ run-read (z .scans) us (length us) (okCount us) (refusedCount us) in
     let v : Alike ws us = record { same = same-verdicts z n ws (ap (λ (x : Reading). x .marks) r) } in
     (v, ap (λ (x : Reading). x .last) r ∙ sym (end-same v))

@@ -97,13 +97,13 @@ shown (written.Refused r) buffer = []
 abbrev pub printed : PrintLeft → List ℕ
 printed p = shown (p .answer) (p .buffer)
 
--- what the seven events are said to be: by seven steps, by the log of a run or of a whole run, or by a printed text's lines, whatever its last line counts
+-- what the seven events are said to be: by seven steps, by the log of a run or of a whole run, or by a printed text's lines, of whatever number of scans and whatever its last line counts
 pub data Says : List Answer → Type 0 where
   bySteps : (f : StepProgram) → StepKept f → Says (saidBy f small (fresh small) (eventsIn numbers 7))
   byRun : (f : RunProgram) → RunKept f → (log : List ℕ) → 14 ≤ length log → Says (answersIn (f small (fresh small) numbers 7 log .log) 7)
   byWholeRun : (f : WholeRunProgram) → WholeRunKept f → (log : List ℕ) → 14 ≤ length log → Says (answersIn (f small numbers 7 log .log) 7)
-  byText : (f : PrintProgram) → PrintKept f → (buffer : List ℕ) (ws : List Answer) (events ok refused : ℕ)
-      → printed (f buffer example) ≡ linesFrom 1 ws ++ endWith events ok refused → Says ws
+  byText : (f : PrintProgram) → PrintKept f → (buffer : List ℕ) (s : ℕ) (ws : List Answer) (events ok refused : ℕ)
+      → printed (f buffer example) ≡ linesFrom s 1 ws ++ endWith events ok refused → Says ws
 
 -- the records that the seven events leave: by seven steps, or by a run
 pub data LeftBehind : State → Type 0 where
@@ -134,9 +134,10 @@ PretendsDone t = t ≡ run small (fresh small) (eventsIn numbers 1)
 
 -- a text's last line is not that of the lines before it
 pub record InventsCounts (t : List ℕ) : Type 0 where
+  pub scans : ℕ
   pub said : List Answer
   pub events : ℕ
   pub ok : ℕ
   pub refused : ℕ
-  pub lines : t ≡ linesFrom 1 said ++ endWith events ok refused
+  pub lines : t ≡ linesFrom scans 1 said ++ endWith events ok refused
   pub invented : endWith events ok refused ≡ endLine said → ⊥

@@ -8,13 +8,13 @@ use Rattle.printer.proofs.add_events.Statement.{statement}
 use Rattle.printer.proofs.add_events.Tie as tie
 
 abbrev Inv-loop : tie.InvT-loop
-Inv-loop buffer₀ log n next₀ k₀ buffer next k = Printing log n buffer₀ buffer next k
+Inv-loop buffer₀ scans log n next₀ k₀ buffer next k = Printing scans log n buffer₀ buffer next k
 
 abbrev μ-loop : tie.MeasureT-loop
-μ-loop buffer₀ log n next₀ k₀ buffer next k = n - k
+μ-loop buffer₀ scans log n next₀ k₀ buffer next k = n - k
 
 loop-holds : tie.Need-loop-holds Inv-loop μ-loop
-loop-holds c = begin-print (c .before .before .args .log .now) (c .before .before .args .n) (c .before .before .args .buffer .now)
+loop-holds c = begin-print (c .before .before .args .scans) (c .before .before .args .log .now) (c .before .before .args .n) (c .before .before .args .buffer .now)
 
 answer-at-requires : tie.Need-answer-at-requires Inv-loop μ-loop
 answer-at-requires c κs = search needs

@@ -2,7 +2,8 @@
 use native.Mathlib.Omega.{arith}
 use lib.ListN.{length-append}
 use Rattle.text.specs.Words.{bytes}
-use Rattle.text.specs.Digits.{decimal, hex}
+use Rattle.text.specs.Digits.{decimal}
+use Rattle.printer.specs.Text.{setText}
 use Rattle.printer.proofs.Adding.{after-both}
 use borrow.Author.Needs.{needs}
 use Rattle.printer.proofs.add_set_line.Statement.{statement}
@@ -40,7 +41,7 @@ unfolding bytes
 returns c =
     let a = c .before .before .before .before .before .before .before .before .before .before .before .before .before .before .before .args in
     after-both
-    (hex (a .set))
+    (setText (a .scans) (a .set))
     (bytes "\n")
     (after-both (decimal (a .party)) (bytes " ") (c .before .before .before .before .before .before .before .before .before .before .before .add-number .ensures) (c .before .before .before .before .before .before .add-number2 .ensures))
     (c .before .before .add-set .ensures)

@@ -9,13 +9,13 @@ use Rattle.printer.proofs.count_events.Statement.{statement}
 use Rattle.printer.proofs.count_events.Tie as tie
 
 abbrev Inv-loop : tie.InvT-loop
-Inv-loop log n length₀ ok₀ k₀ length ok k = Counting log n length ok k
+Inv-loop scans log n length₀ ok₀ k₀ length ok k = Counting scans log n length ok k
 
 abbrev μ-loop : tie.MeasureT-loop
-μ-loop log n length₀ ok₀ k₀ length ok k = n - k
+μ-loop scans log n length₀ ok₀ k₀ length ok k = n - k
 
 loop-holds : tie.Need-loop-holds Inv-loop μ-loop
-loop-holds c = begin-count (c .before .args .log .now) (c .before .args .n)
+loop-holds c = begin-count (c .before .args .scans) (c .before .args .log .now) (c .before .args .n)
 
 answer-at-requires : tie.Need-answer-at-requires Inv-loop μ-loop
 answer-at-requires c κs = search needs
@@ -29,7 +29,7 @@ lines-length-requires c κs = search needs
 add-length : tie.Need-add-length Inv-loop μ-loop
 add-length c =
     let s = count-small (c .before .before .before .loop .inv) in
-    omega (arith, lines-most (c .before .before .before .loop .k + 1) (c .before .answer-at .result))
+    omega (arith, lines-most (c .before .before .before .before .before .args .scans) (c .before .before .before .loop .k + 1) (c .before .answer-at .result))
 
 ok-one-requires : tie.Need-ok-one-requires Inv-loop μ-loop
 ok-one-requires c κs = search needs

@@ -23,13 +23,13 @@ add-length : tie.Need-add-length
 add-length c =
     let a = c .before .before .before .before .before .args in
     let w = c .before .before .count-events in
-    omega (arith, w .ensures .0, lines-most-in (a .log .now) (a .n), end-most (a .n) (w .result .ok) (a .n - w .result .ok))
+    omega (arith, w .ensures .0, lines-most-in (a .scans) (a .log .now) (a .n), end-most (a .n) (w .result .ok) (a .n - w .result .ok))
 
 returns : tie.Need-returns
 returns c =
     let a = c .before .before .before .before .before .before .args in
     let w = c .before .before .before .count-events .ensures in
-    no-room (runText (answersIn (a .log .now) (a .n))) (a .buffer .now) (omega (arith, run-length (a .log .now) (a .n) (w .1)))
+    no-room (runText (a .scans) (answersIn (a .log .now) (a .n))) (a .buffer .now) (omega (arith, run-length (a .scans) (a .log .now) (a .n) (w .1)))
 
 add-events-requires : tie.Need-add-events-requires
 add-events-requires c κs = search needs
@@ -45,10 +45,10 @@ returns-2 c =
     let a = c .before .before .before .before .before .before .before .before .before .before .before .before .before .before .args in
     let w = c .before .before .before .before .before .before .before .before .before .before .before .count-events .ensures in
     printed
-    (runText (answersIn (a .log .now) (a .n)))
+    (runText (a .scans) (answersIn (a .log .now) (a .n)))
     (a .buffer .now)
-    (omega (arith, run-length (a .log .now) (a .n) (w .1)))
-    (rw (run-text (a .log .now) (a .n) (w .1)) (after (c .before .before .before .before .before .before .add-events .ensures) (c .before .before .add-end-line .ensures)))
+    (omega (arith, run-length (a .scans) (a .log .now) (a .n) (w .1)))
+    (rw (run-text (a .scans) (a .log .now) (a .n) (w .1)) (after (c .before .before .before .before .before .before .add-events .ensures) (c .before .before .add-end-line .ensures)))
 
 pub print-log-spec : {M : Type 1} → statement M
 print-log-spec =

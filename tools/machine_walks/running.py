@@ -154,13 +154,14 @@ w = Loop(Function(
     definitions=[('r₀', 'Ran', 'record { proposers = ps; acceptors = acs; learners = ls; slots = t; log = log }')],
     facts=[],
     uses=('''use Rattle.machine.specs.Stepping.{Left, stepOf, Fits}
-use Rattle.machine.specs.Running.{noted, Ran, onward, ranTo, driven, Drives}
+use Rattle.machine.specs.Log.{perAnswer, noted}
+use Rattle.machine.specs.Running.{Ran, onward, ranTo, driven, Drives}
 use Rattle.machine.specs.Calls.{eventOf}
 ''', '''use Rattle.machine.proofs.LoopsOverSteps.{at-end, still-fit, event-there, answer-there, ran-none, ran-next}
 use Rattle.machine.proofs.WalkedLoops.{tests, Nearer, Nearer-wf, fits-next, falls}
 ''')), 'Ran', ('ranTo z events r₀', 'ran-none z events r₀'), 9, [
     ('gk', 'Holds (ltb k n) → k < 2 ^ 64', ' on', 'omega (arith, low on, gn .1)'), ('e', 'Event', '', 'eventOf events k'), STEPPED, ('log′', 'List ℕ', '', 'noted (r .log) k (done′ .answer)'),
-    ('fitting', 'Holds (ltb k n) → Fits z ps acs ls t × ((3 * n ≤ n₄) × (2 * n ≤ n₅))', ' on', 'drives (omega (arith, low on))'), still(5, 'fitting on .0')])
+    ('fitting', 'Holds (ltb k n) → Fits z ps acs ls t × ((3 * n ≤ n₄) × (perAnswer * n ≤ n₅))', ' on', 'drives (omega (arith, low on))'), still(5, 'fitting on .0')])
 w.zero()
 w.test(12)
 w.hands(('running', 'event_at'), [6, 9], 10, 'Event', 'e', need='(event-there k n n₄ (low on) (fitting on .1 .0))')

@@ -13,6 +13,7 @@ pub mod Readiness
 pub mod EventLaws
 pub mod StepLaws
 pub mod RunLaws
+pub mod ReadBack
 pub mod Longer
 pub mod CallLaws
 pub mod CallTests

@@ -32,8 +32,9 @@ use Rattle.decisions.specs.Change.{learnerAfter, slotAfter}
 use Rattle.decisions.specs.declared.arms.Decision.{Decision}
 use Rattle.machine.specs.Stepping.{indexIn, partyOf, replyOf, Fits, Left, theMessage, stepOf}
 use Rattle.decisions.specs.Arms.{decideOf, finishOf}
-use Rattle.machine.specs.Running.{noted, Ran, onward, ranTo, driven, Drives}
-use Rattle.machine.specs.Calls.{eventOf, eventsIn, logged, hasNumbers, wholeRunNo, logAfterWholeRun}
+use Rattle.machine.specs.Running.{Ran, onward, ranTo, driven, Drives}
+use Rattle.machine.specs.Log.{perAnswer, logged, noted}
+use Rattle.machine.specs.Calls.{eventOf, eventsIn, hasNumbers, wholeRunNo, logAfterWholeRun}
 use Rattle.machine.specs.Counting.{turnsOf}
 use Rattle.machine.proofs.Posting.{others-take}
 use Rattle.machine.proofs.Readiness.{proposer-there, acceptor-there, learner-there, slot-there}
@@ -222,7 +223,7 @@ module _ (z : Sizes) (ps : List Proposer) (acs : List Acceptor) (ls : List Learn
 
 module _ (z : Sizes) (ps : List Proposer) (acs : List Acceptor) (ls : List Learner) (t : List Message) (ns : List ℕ) (n : ℕ) (log : List ℕ) (first : sizesInRange z ≡ true → leb n mostEvents ≡ true → hasNumbers ns n log ≡ true → FreshFirst z ps acs ls t) where
   -- all n events
-  first-log : sizesInRange z ≡ true → FreshFirst z ps acs ls t → 2 * n ≤ length log → driven z ps acs ls t ns log n .log ≡ logged (answers z (fresh z) (eventsIn ns n)) log
+  first-log : sizesInRange z ≡ true → FreshFirst z ps acs ls t → perAnswer * n ≤ length log → driven z ps acs ls t ns log n .log ≡ logged (answers z (fresh z) (eventsIn ns n)) log
   first-log h x room =
       (λ i. driven z (x .proposers i) (x .acceptors i) (x .learners i) (x .slots i) ns log n .log)
       ∙ ap (λ (r : Ran). r .log) (driven-longer z (fresh z .proposers) (fresh z .acceptors) (fresh z .learners) (fresh z .slots) (fresh-fits z h) ns log (x .moreProposers) (x .moreAcceptors) (x .moreLearners) (x .moreSlots) (x .taken) n)

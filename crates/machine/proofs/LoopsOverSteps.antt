@@ -17,6 +17,7 @@ use Rattle.model.specs.declared.Message.{Message}
 use Rattle.model.specs.declared.Event.{Event}
 use Rattle.machine.specs.Stepping.{Left, stepOf, Fits}
 use Rattle.machine.specs.Running.{Ran, onward, ranTo, timesFrom}
+use Rattle.machine.specs.Log.{perAnswer}
 use Rattle.machine.specs.Calls.{eventOf}
 
 pub at-end : (k n : ℕ) → k ≤ n → n ≤ k → k ≡ n
@@ -32,7 +33,7 @@ still-fit z ps ps′ acs acs′ ls ls′ t t′ e₀ e₁ e₂ e₃ fit =
 pub event-there : (k n m : ℕ) → k < n → 3 * n ≤ m → 3 * k + 2 < m
 event-there k n m low enough = omega arith
 
-pub answer-there : (k n m m′ : ℕ) → k < n → 2 * n ≤ m → m′ ≡ m → 2 * k + 1 < m′
+pub answer-there : (k n m m′ : ℕ) → k < n → perAnswer * n ≤ m → m′ ≡ m → perAnswer * (k + 1) ≤ m′
 answer-there k n m m′ low enough same = omega arith
 
 pub ran-none : (z : Sizes) (ns : List ℕ) (r : Ran) → r ≡ ranTo z ns r 0

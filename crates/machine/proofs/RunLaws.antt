@@ -1,14 +1,13 @@
 -- A run on lent records is the model's run: one step agrees with the model's step, and a run is its steps.
 use mathlib.Core.Path.{_≡_, refl, sym, _∙_, ap, ap₂, subst}
 use mathlib.Core.Bool.{Bool, true, false}
-use mathlib.Core.List.{List, [], _∷_, _++_, map, append-assoc}
+use mathlib.Core.List.{List, [], _∷_, _++_, map}
 use Prim.Native.Nat.{ℕ, zero, suc, _+_, _*_, _≤_}
 use native.Mathlib.Nat.{not-suc-le-zero, add-zero}
-use native.Mathlib.Numerals.{add-one}
 use native.Mathlib.Omega.{arith}
 use lib.Dec.{eqb, leb}
-use lib.ListN.{length, set, drop, length-append, length-drop}
-use lib.Seq.{drop-drop}
+use lib.ListN.{length, drop, length-append, length-drop}
+use lib.Seq.{sets, sets-eq, take-append-seam, drop-append-add, drop-drop}
 use borrow.Author.Tests.{leb-true}
 use Rattle.choice.specs.Choice.{if_then_else_}
 use Rattle.sizes.specs.Events.{mostEvents}
@@ -27,8 +26,9 @@ use Rattle.model.specs.declared.Answer.{Answer}
 use Rattle.choice.proofs.Tests.{and-l, and-r}
 use Rattle.model.proofs.InRange.{test-ranges, sizes-in-range, step-in-range}
 use Rattle.machine.specs.Stepping.{Fits, stepOf}
-use Rattle.machine.specs.Running.{noted, Ran, onward, ranTo, driven, Drives, timesFrom, timesOf, Repeats}
-use Rattle.machine.specs.Calls.{eventOf, eventsIn, saidNo, saidSet, lent, said, logged, hasNumbers, runNo, afterRun, logAfterRun}
+use Rattle.machine.specs.Running.{Ran, onward, ranTo, driven, Drives, timesFrom, timesOf, Repeats}
+use Rattle.machine.specs.Log.{perAnswer, saidNumbers, said, logged, noted}
+use Rattle.machine.specs.Calls.{eventOf, eventsIn, lent, hasNumbers, runNo, afterRun, logAfterRun}
 use Rattle.machine.proofs.StepLaws.{Agrees, step-agrees, step-refused}
 
 -- ---- one event more
@@ -70,34 +70,30 @@ module _ (z : Sizes) where
 
 -- ---- one answer more in the log
 
-said-next : (ws : List Answer) (w : Answer) → said (ws ++ (w ∷ [])) ≡ said ws ++ (saidNo w ∷ saidSet w ∷ [])
+said-next : (ws : List Answer) (w : Answer) → said (ws ++ (w ∷ [])) ≡ said ws ++ saidNumbers w
 unfolding said
 said-next [] w = refl
-said-next (x ∷ ws) w = ap (λ (l : List ℕ). saidNo x ∷ saidSet x ∷ l) (said-next ws w)
+said-next (x ∷ ws) w = ap (λ (l : List ℕ). saidNumbers x ++ l) (said-next ws w)
 
-length-said : (ws : List Answer) → length (said ws) ≡ 2 * length ws
+length-said : (ws : List Answer) → length (said ws) ≡ perAnswer * length ws
 unfolding said
 length-said [] = refl
 length-said (w ∷ ws) = omega (arith, length-said ws)
 
--- two numbers stored past p
-stored : (p q : List ℕ) (a b : ℕ) → 2 ≤ length q → set (set (p ++ q) (length p) a) (suc (length p)) b ≡ p ++ (a ∷ b ∷ drop 2 q)
-stored [] [] a b h = absurd (omega arith)
-stored [] (x ∷ []) a b h = absurd (omega arith)
-stored [] (x ∷ y ∷ q) a b h = refl
-stored (x ∷ p) q a b h = ap (λ (l : List ℕ). x ∷ l) (stored p q a b h)
+-- numbers stored past p
+stored : (p q ns : List ℕ) → length ns ≤ length q → sets (p ++ q) (length p) ns ≡ p ++ ns ++ drop (length ns) q
+stored p q ns h = sets-eq ns (p ++ q) (length p) (rw (length-append p q) (omega arith)) ∙ rw (take-append-seam p q, drop-append-add p q (length ns))
 
-two-more : (ws : List Answer) (w : Answer) → 2 * length ws + 2 ≡ 2 * length (ws ++ (w ∷ []))
-two-more ws w = omega (arith, length-append ws (w ∷ []))
+one-more : (ws : List Answer) (w : Answer) → perAnswer * length ws + perAnswer ≡ perAnswer * length (ws ++ (w ∷ []))
+one-more ws w = omega (arith, length-append ws (w ∷ []))
 
-noted-next : (ws : List Answer) (w : Answer) (log : List ℕ) (n : ℕ) → length ws ≡ n → 2 * suc n ≤ length log → noted (logged ws log) n w ≡ logged (ws ++ (w ∷ [])) log
+noted-next : (ws : List Answer) (w : Answer) (log : List ℕ) (n : ℕ) → length ws ≡ n → perAnswer * suc n ≤ length log → noted (logged ws log) n w ≡ logged (ws ++ (w ∷ [])) log
 noted-next ws w log n e h =
-    ap (λ (k : ℕ). set (set (logged ws log) k (saidNo w)) (k + 1) (saidSet w)) (ap (λ (k : ℕ). 2 * k) (sym e) ∙ sym (length-said ws))
-    ∙ ap (λ (k : ℕ). set (set (logged ws log) (length (said ws)) (saidNo w)) k (saidSet w)) (add-one (length (said ws)))
-    ∙ stored (said ws) (drop (2 * length ws) log) (saidNo w) (saidSet w) (omega (arith, length-drop (2 * length ws) log))
-    ∙ sym (append-assoc (said ws) (saidNo w ∷ saidSet w ∷ []) (drop 2 (drop (2 * length ws) log)))
-    ∙ ap (λ (l : List ℕ). l ++ drop 2 (drop (2 * length ws) log)) (sym (said-next ws w))
-    ∙ ap (λ (l : List ℕ). said (ws ++ (w ∷ [])) ++ l) (drop-drop 2 (2 * length ws) log ∙ ap (λ (k : ℕ). drop k log) (two-more ws w))
+    let rest = drop (perAnswer * length ws) log in
+    ap (λ (k : ℕ). sets (logged ws log) k (saidNumbers w)) (ap (λ (k : ℕ). perAnswer * k) (sym e) ∙ sym (length-said ws))
+    ∙ stored (said ws) rest (saidNumbers w) (omega (arith, length-drop (perAnswer * length ws) log))
+    ∙ ap (λ (l : List ℕ). l ++ drop perAnswer rest) (sym (said-next ws w))
+    ∙ ap (λ (l : List ℕ). said (ws ++ (w ∷ [])) ++ l) (drop-drop perAnswer (perAnswer * length ws) log ∙ ap (λ (k : ℕ). drop k log) (one-more ws w))
 
 -- ---- the run
 
@@ -125,7 +121,7 @@ module _ (z : Sizes) where
       subst (λ (u : State). Agrees (stepOf z e (u .proposers) (u .acceptors) (u .learners) (u .slots)) (step z s e)) (sym (same-state x)) (step-agrees z s e h)
 
   -- one event more
-  onward-ends : (s : State) (es : List Event) (e : Event) (log : List ℕ) (n : ℕ) (r : Ran) → recordsInRange z s ≡ true → length es ≡ n → 2 * suc n ≤ length log
+  onward-ends : (s : State) (es : List Event) (e : Event) (log : List ℕ) (n : ℕ) (r : Ran) → recordsInRange z s ≡ true → length es ≡ n → perAnswer * suc n ≤ length log
       → Ends r (run z s es) (logged (answers z s es) log)
       → Ends (onward z e n r) (run z s (es ++ (e ∷ []))) (logged (answers z s (es ++ (e ∷ []))) log)
   onward-ends s es e log n r h many room x =
@@ -144,7 +140,7 @@ module _ (z : Sizes) where
 
   module _ (ps : List Proposer) (acs : List Acceptor) (ls : List Learner) (t : List Message) (ns log : List ℕ) where
     -- the first n events
-    pub driven-ends : recordsInRange z (lent ps acs ls t) ≡ true → (n : ℕ) → 2 * n ≤ length log
+    pub driven-ends : recordsInRange z (lent ps acs ls t) ≡ true → (n : ℕ) → perAnswer * n ≤ length log
         → Ends (driven z ps acs ls t ns log n) (run z (lent ps acs ls t) (eventsIn ns n)) (logged (answers z (lent ps acs ls t) (eventsIn ns n)) log)
     unfolding ranTo run answers said from
     driven-ends h zero room = none-ends (driven z ps acs ls t ns log 0)
@@ -161,7 +157,7 @@ in-range-fits z ps acs ls t h =
     (sizes-in-range z (lent ps acs ls t) h, (omega (arith, x .manyProposers), (omega (arith, x .manyAcceptors), (omega (arith, x .manyLearners), omega (arith, x .manySlots)))))
 
 -- there are numbers for the events, and room for their answers
-pub numbers-there : (ns : List ℕ) (n : ℕ) (log : List ℕ) → hasNumbers ns n log ≡ true → (3 * n ≤ length ns) × (2 * n ≤ length log)
+pub numbers-there : (ns : List ℕ) (n : ℕ) (log : List ℕ) → hasNumbers ns n log ≡ true → (3 * n ≤ length ns) × (perAnswer * n ≤ length log)
 numbers-there ns n log h = search (and-l, and-r, leb-true)
 
 module _ (z : Sizes) (ps : List Proposer) (acs : List Acceptor) (ls : List Learner) (t : List Message) (ns : List ℕ) (n : ℕ) (log : List ℕ) where

@@ -1,10 +1,10 @@
 -- What the calls promise, of the records that a caller lends: fresh, one step, a run, and a run from fresh on records of its own.
 use mathlib.Core.Path.{_≡_}
 use mathlib.Core.Bool.{Bool, _&&_}
-use mathlib.Core.List.{List, [], _∷_, _++_, map}
+use mathlib.Core.List.{List, map}
 use Prim.Native.Nat.{ℕ, _+_, _*_}
 use lib.Dec.{eqb, leb}
-use lib.ListN.{length, drop, getD}
+use lib.ListN.{length, getD}
 use Rattle.choice.specs.Choice.{if_then_else_}
 use Rattle.sizes.specs.Sizes.{sizesInRange}
 use Rattle.sizes.specs.Events.{mostEvents}
@@ -20,8 +20,8 @@ use Rattle.model.specs.declared.Learner.{Learner}
 use Rattle.model.specs.declared.Message.{Message}
 use Rattle.model.specs.declared.Event.{Event}
 use Rattle.model.specs.declared.Answer.{Answer}
-use Rattle.model.specs.declared.Answer.the-variants.{Ok, Learnt, Decided, Refused}
 use Rattle.machine.specs.declared.calls.Said.{Said}
+use Rattle.machine.specs.Log.{perAnswer, saidNo, saidSet, logged}
 
 -- the records that a caller lends
 abbrev pub lent : List Proposer → List Acceptor → List Learner → List Message → State
@@ -37,24 +37,10 @@ afterFresh z s = if eqb (freshNo z s) 0 then fresh z else s
 
 -- ---- an answer as two numbers
 
--- 0 for ok, a refusal's number, 256 and the learner, 512 and the proposer
-unfoldable pub saidNo : Answer → ℕ
-saidNo Ok = 0
-saidNo (Learnt l v) = 256 + l .0
-saidNo (Decided p v) = 512 + p .0
-saidNo (Refused n) = n
-
--- the set learnt or decided, scan 0 the lowest bit
-unfoldable pub saidSet : Answer → ℕ
-saidSet Ok = 0
-saidSet (Learnt l v) = v .bits
-saidSet (Decided p v) = v .bits
-saidSet (Refused n) = 0
-
 abbrev pub saidOf : Answer → Said
 saidOf w = record { no = saidNo w; set = saidSet w }
 
--- ---- a run of n events, three numbers each; each answer is two numbers of the log
+-- ---- a run of n events, three numbers each; their answers go into a log
 
 -- event k: code, a, b
 abbrev pub eventOf : List ℕ → ℕ → Event
@@ -64,18 +50,9 @@ eventOf ns k = record { code = getD ns (3 * k) 0; a = getD ns (3 * k + 1) 0; b =
 abbrev pub eventsIn : List ℕ → ℕ → List Event
 eventsIn ns n = map (eventOf ns) (from 0 n)
 
--- the answers as they stand in a log
-unfoldable pub said : List Answer → List ℕ
-said [] = []
-said (w ∷ ws) = saidNo w ∷ saidSet w ∷ said ws
-
--- what stands past them stays
-abbrev pub logged : List Answer → List ℕ → List ℕ
-logged ws log = said ws ++ drop (2 * length ws) log
-
 -- there are numbers for n events, and room for their answers: of how many numbers there are, and how long the log is
 abbrev pub enoughOf : ℕ → ℕ → ℕ → Bool
-enoughOf e l n = leb (3 * n) e && leb (2 * n) l
+enoughOf e l n = leb (3 * n) e && leb (perAnswer * n) l
 
 abbrev pub hasNumbers : List ℕ → ℕ → List ℕ → Bool
 hasNumbers ns n log = enoughOf (length ns) (length log) n

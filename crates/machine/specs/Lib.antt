@@ -1,4 +1,5 @@
 pub mod Acceptors
+pub mod Log
 pub mod Calls
 pub mod Histories
 pub mod Counting

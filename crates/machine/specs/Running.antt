@@ -1,22 +1,18 @@
 -- A run over the events of a schedule, on the records that a caller lends, as the code does it: event by event, each answer into a log. Contracts of private functions.
 use mathlib.Core.Path.{_≡_}
 use mathlib.Core.List.{List}
-use Prim.Native.Nat.{ℕ, zero, suc, _+_, _*_, _<_, _≤_}
-use lib.ListN.{length, set}
+use Prim.Native.Nat.{ℕ, zero, suc, _*_, _<_, _≤_}
+use lib.ListN.{length}
 use Rattle.sizes.specs.declared.Sizes.{Sizes}
 use Rattle.model.specs.declared.Proposer.{Proposer}
 use Rattle.model.specs.declared.Acceptor.{Acceptor}
 use Rattle.model.specs.declared.Learner.{Learner}
 use Rattle.model.specs.declared.Message.{Message}
 use Rattle.model.specs.declared.Event.{Event}
-use Rattle.model.specs.declared.Answer.{Answer}
 use Rattle.model.specs.declared.Answer.the-variants.{Refused}
-use Rattle.machine.specs.Calls.{eventOf, saidNo, saidSet}
+use Rattle.machine.specs.Log.{perAnswer, noted}
+use Rattle.machine.specs.Calls.{eventOf}
 use Rattle.machine.specs.Stepping.{Left, stepOf, Fits}
-
--- answer k noted
-abbrev pub noted : List ℕ → ℕ → Answer → List ℕ
-noted log k w = set (set log (2 * k) (saidNo w)) (2 * k + 1) (saidSet w)
 
 -- ---- the run
 
@@ -46,7 +42,7 @@ driven z ps acs ls t ns log n = ranTo z ns (record { proposers = ps; acceptors =
 
 -- where there are events to run, the records fit, and there are numbers and room for all of them
 abbrev pub Drives : Sizes → List Proposer → List Acceptor → List Learner → List Message → List ℕ → List ℕ → ℕ → Type 0
-Drives z ps acs ls t ns log n = 0 < n → Fits z ps acs ls t × ((3 * n ≤ length ns) × (2 * n ≤ length log))
+Drives z ps acs ls t ns log n = 0 < n → Fits z ps acs ls t × ((3 * n ≤ length ns) × (perAnswer * n ≤ length log))
 
 -- what is left is that of a run
 abbrev pub Drove : Ran → List Proposer → List Acceptor → List Learner → List Message → List ℕ → Type 0

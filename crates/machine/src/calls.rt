@@ -5,6 +5,7 @@ ghost use Rattle.sizes.specs.Sizes.{sizesInRange};
 ghost use Rattle.machine.specs.Slots.{takenSlot};
 ghost use Rattle.machine.specs.Calls.{lent, saidOf, FreshCall, StepCall, SaidCall, RunCall, WholeRunCall, enoughOf};
 ghost use Rattle.machine.specs.Counting.{lengthsAre, soundOf, turnsOf, sizedNo, eventsNo, wholeNo};
+use crate::PER_ANSWER;
 use crate::lent::acceptors_in_range;
 use crate::lent::fill_acceptors;
 use crate::lent::fill_learners;
@@ -184,12 +185,12 @@ pub extern "C" fn machine_step(
     said_of(answer)
 }
 
-// There are numbers for `n` events, three for each, and room for their answers, two for each.
+// There are numbers for `n` events, three for each, and room for their answers.
 fn enough(numbers: usize, room: usize, n: u16) -> bool
     ensures { λ r. ⌜ r ≡ enoughOf numbers room n ⌝ }
 {
     let n = n as usize;
-    both(3 * n <= numbers, 2 * n <= room)
+    both(3 * n <= numbers, PER_ANSWER * n <= room)
 }
 
 // 3 for more than 4,096 events, and 8 where there is not enough for them.
@@ -252,7 +253,7 @@ fn taken_slot() -> Message
     }
 }
 
-// A run of `n` events from fresh, on records of its own, as many as any run has. Slots past the run's number are taken. The answers go into the log, two numbers each; a refusal leaves the log as it was.
+// A run of `n` events from fresh, on records of its own, as many as any run has. Slots past the run's number are taken. The answers go into the log; a refusal leaves the log as it was.
 pub fn whole_run(z: Sizes, events: &[u64], log: &mut [u64], n: u16) -> u8
     ensures { λ r. ⌜ WholeRunCall z (now (events .entry)) n (now (log .entry)) r (now (log .exit)) ⌝ }
 {

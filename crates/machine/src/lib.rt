@@ -5,3 +5,6 @@ mod lent;
 mod running;
 mod sending;
 mod step;
+
+// How many numbers of a log an answer has.
+pub const PER_ANSWER: usize = 2;

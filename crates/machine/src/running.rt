@@ -1,10 +1,12 @@
 // A run over the events of a schedule on the records that a caller lends, event by event, and one event where its records are in range.
 ghost use mathlib.Core.Path.{_≡_};
-ghost use Prim.Native.Nat.{_+_, _*_, _<_};
+ghost use Prim.Native.Nat.{_+_, _*_, _<_, _≤_};
 ghost use lib.ListN.{length};
 ghost use Rattle.machine.specs.Stepping.{Gives};
-ghost use Rattle.machine.specs.Running.{noted, driven, Drives, Drove, timesOf, Repeats};
-ghost use Rattle.machine.specs.Calls.{eventOf, saidNo, saidSet};
+ghost use Rattle.machine.specs.Running.{driven, Drives, Drove, timesOf, Repeats};
+ghost use Rattle.machine.specs.Log.{perAnswer, saidNo, saidSet, noted};
+ghost use Rattle.machine.specs.Calls.{eventOf};
+use crate::PER_ANSWER;
 use crate::step::step;
 use model::Acceptor;
 use model::Answer;
@@ -49,12 +51,12 @@ pub(crate) fn said_set(answer: Answer) -> u64
     }
 }
 
-// Answer `k` into the log, two numbers for each.
+// Answer `k` into the log.
 fn note(log: &mut [u64], k: usize, answer: Answer)
-    requires { ⌜ 2 * k + 1 < length (now log) ⌝ }
+    requires { ⌜ perAnswer * (k + 1) ≤ length (now log) ⌝ }
     ensures { λ _. ⌜ now (log .exit) ≡ noted (now (log .entry)) k answer ⌝ }
 {
-    let at = 2 * k;
+    let at = PER_ANSWER * k;
     log[at] = said_no(answer);
     log[at + 1] = said_set(answer);
 }

@@ -14,8 +14,8 @@ use Rattle.forms.proofs.Steps.{sets-append}
 use Rattle.model.specs.Table.{from}
 use Rattle.model.specs.Step.{answerNo}
 use Rattle.model.specs.declared.Answer.{Answer}
+use Rattle.machine.specs.Log.{answerAt, answersIn}
 use Rattle.printer.specs.Adds.{Adds}
-use Rattle.printer.specs.Log.{answerAt, answersIn}
 use Rattle.printer.specs.Text.{widestSet, lines, linesFrom, okCount, refusedCount, endWith, runText}
 use Rattle.printer.proofs.Lengths.{lines-from-most}
 

@@ -1,9 +1,8 @@
--- What the proofs of several functions cite, and the laws of the texts and of the log.
+-- What the proofs of several functions cite, and the laws of the texts.
 pub mod Adding
 pub mod Lengths
 pub mod Events
 pub mod Longest
-pub mod ReadBack
 pub mod Printing
 pub mod Files
 pub mod Telling

@@ -29,13 +29,13 @@ use Rattle.model.specs.declared.Answer.{Answer}
 use Rattle.model.specs.declared.Answer.the-variants.{Ok, Learnt, Decided, Refused}
 use Rattle.model.proofs.Lists.{All, none, also}
 use Rattle.model.proofs.Answers.{Named, namesNone, namesLearner, namesProposer, namesRefusal, all-named}
-use Rattle.machine.specs.Calls.{eventOf, eventsIn, hasNumbers, logged, logAfterWholeRun}
+use Rattle.machine.specs.Log.{perAnswer, logged, answersIn}
+use Rattle.machine.specs.Calls.{eventOf, eventsIn, hasNumbers, logAfterWholeRun}
 use Rattle.sizes.proofs.SizeLaws.{bounds}
 use Rattle.machine.proofs.RunLaws.{length-from, length-answers}
-use Rattle.printer.specs.Log.{answersIn}
+use Rattle.machine.proofs.ReadBack.{Small, read-back}
 use Rattle.printer.specs.Text.{runText, refusedText, longestText, textWritten, afterText}
 use Rattle.printer.specs.Printing.{textOfRun, textOfRead, text}
-use Rattle.printer.proofs.ReadBack.{Small, read-back}
 use Rattle.printer.proofs.Lengths.{refusal-length}
 use Rattle.printer.proofs.Longest.{Short, longest}
 
@@ -52,9 +52,9 @@ all-answers : {z : Sizes} (Q : Answer → Type 0) → ((w : Answer) → Named z 
 all-answers Q f none = none
 all-answers Q f (also {x = w} x xs) = also (f w x) (all-answers Q f xs)
 
-module _ (z : Sizes) (ns log : List ℕ) (n : ℕ) (h : sizesInRange z ≡ true) (few : n ≤ mostEvents) (numbers : 3 * n ≤ length ns) (room : 2 * n ≤ length log) where
+module _ (z : Sizes) (ns log : List ℕ) (n : ℕ) (h : sizesInRange z ≡ true) (few : n ≤ mostEvents) (numbers : 3 * n ≤ length ns) (room : perAnswer * n ≤ length log) where
   there : hasNumbers ns n log ≡ true
-  there = rw (le-leb (3 * n) (length ns) numbers, le-leb (2 * n) (length log) room)
+  there = rw (le-leb (3 * n) (length ns) numbers, le-leb (perAnswer * n) (length log) room)
 
   many : length (answers z (fresh z) (eventsIn ns n)) ≡ n
   many = length-answers z (fresh z) (eventsIn ns n) ∙ length-from (eventOf ns) 0 n
@@ -63,7 +63,7 @@ module _ (z : Sizes) (ns log : List ℕ) (n : ℕ) (h : sizesInRange z ≡ true)
   run-log =
       let ws = answers z (fresh z) (eventsIn ns n) in
       rw (h, le-leb n mostEvents few, there)
-      (ap (answersIn (logged ws log)) (sym many) ∙ read-back ws (drop (2 * length ws) log) (all-answers Small (named-small z h) (all-named z (fresh z) (eventsIn ns n))))
+      (ap (answersIn (logged ws log)) (sym many) ∙ read-back ws (drop (perAnswer * length ws) log) (all-answers Small (named-small z h) (all-named z (fresh z) (eventsIn ns n))))
 
   pub run-printed : (buffer log′ : List ℕ) (r : Written) (left : List ℕ) → log′ ≡ logAfterWholeRun z ns n log
       → (r ≡ textWritten (runText (z .scans) (answersIn log′ n)) buffer) × (left ≡ afterText (runText (z .scans) (answersIn log′ n)) buffer)

@@ -21,6 +21,7 @@ use Rattle.model.specs.declared.Answer.the-variants.{Ok, Learnt, Decided, Refus
 unfoldable pub setWidth : ℕ → ℕ
 setWidth s = 16
 
+-- they are those of its first word, which holds all scans that a run can have
 unfoldable pub setText : ℕ → Scans → List ℕ
 setText s v = hexOf (setWidth s) (firstWord v)
 

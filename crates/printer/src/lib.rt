@@ -1,7 +1,7 @@
 // The text of a run: what the run printer prints.
 ghost use mathlib.Core.Path.{_≡_};
 ghost use mathlib.Core.List.{_++_};
-ghost use Prim.Native.Nat.{_+_, _*_, _≤_, _<_};
+ghost use Prim.Native.Nat.{_+_, _*_, _≤_};
 ghost use lib.Dec.{eqb};
 ghost use lib.ListN.{length};
 ghost use Rattle.choice.specs.Choice.{if_then_else_};
@@ -9,13 +9,14 @@ ghost use Rattle.numbers.specs.Coding.{writtenNo};
 ghost use Rattle.text.specs.Words.{bytes};
 ghost use Rattle.text.specs.Digits.{decimal};
 ghost use Rattle.model.specs.Step.{answerNo};
+ghost use Rattle.machine.specs.Log.{perAnswer, readNumbers, answerAt, answersIn};
 ghost use mathlib.Core.Bool.{true};
 ghost use Rattle.sizes.specs.Sizes.{sizesInRange};
 ghost use Rattle.sizes.specs.Events.{mostEvents};
 ghost use Rattle.printer.specs.Adds.{Adds};
-ghost use Rattle.printer.specs.Log.{readAnswerOf, answerAt, answersIn};
 ghost use Rattle.printer.specs.Text.{setWidth, setText, refusedLine, setLine, lines, linesFrom, okCount, endWith, runText, refusedText, textWritten, afterText, textWrittenNo};
 ghost use Rattle.printer.specs.Printing.{textOfRun, text};
+use machine::PER_ANSWER;
 use model::Answer;
 use numbers::Refusal;
 use numbers::Written;
@@ -25,10 +26,12 @@ use sets::LearnerId;
 use sets::ProposerId;
 use sets::scans::Scans;
 
-// What two numbers of a log say.
-fn answer_of(code: u64, set: u64) -> Answer
-    ensures { λ r. ⌜ r ≡ readAnswerOf code set ⌝ }
+// The answer of a log whose numbers come first.
+fn answer_of(numbers: &[u64]) -> Answer
+    requires { ⌜ perAnswer ≤ length (now numbers) ⌝ }
+    ensures { λ r. ⌜ r ≡ readNumbers (now (numbers .entry)) ⌝ }
 {
+    let code = numbers[0];
     if code == 0 {
         return Answer::Ok;
     }
@@ -36,7 +39,7 @@ fn answer_of(code: u64, set: u64) -> Answer
         return Answer::Refused(code as u8);
     }
     let party = (code % 256) as u8;
-    let scans = Scans { bits: set };
+    let scans = Scans { bits: numbers[1] };
     if code < 512 {
         return Answer::Learnt {
             learner: LearnerId(party),
@@ -51,10 +54,11 @@ fn answer_of(code: u64, set: u64) -> Answer
 
 // Answer k of a log.
 fn answer_at(log: &[u64], k: usize) -> Answer
-    requires { ⌜ 2 * k + 1 < length (now log) ⌝ }
+    requires { ⌜ perAnswer * (k + 1) ≤ length (now log) ⌝ }
     ensures { λ r. ⌜ r ≡ answerAt (now (log .entry)) k ⌝ }
 {
-    answer_of(log[2 * k], log[2 * k + 1])
+    let at = PER_ANSWER * k;
+    answer_of(&log[at..])
 }
 
 // How many digits a set has in a run of so many scans.
@@ -118,7 +122,7 @@ struct Tally {
 }
 
 fn count_events(scans: u16, log: &[u64], n: usize) -> Tally
-    requires { ⌜ (2 * n ≤ length (now log)) × (n ≤ 65535) ⌝ }
+    requires { ⌜ (perAnswer * n ≤ length (now log)) × (n ≤ 65535) ⌝ }
     ensures { λ r. ⌜ (r .length ≡ length (linesFrom scans 1 (answersIn (now (log .entry)) n)))
         × (r .ok ≡ okCount (answersIn (now (log .entry)) n)) ⌝ }
 {
@@ -224,7 +228,7 @@ fn add_lines(buffer: &mut [u8], at: usize, scans: u16, place: u64, answer: Answe
 
 // The lines of the first n events of a log.
 fn add_events(buffer: &mut [u8], scans: u16, log: &[u64], n: usize) -> usize
-    requires { ⌜ (2 * n ≤ length (now log)) × (length (linesFrom scans 1 (answersIn (now log) n)) ≤ length (now buffer)) ⌝ }
+    requires { ⌜ (perAnswer * n ≤ length (now log)) × (length (linesFrom scans 1 (answersIn (now log) n)) ≤ length (now buffer)) ⌝ }
     ensures { λ r. ⌜ Adds (linesFrom scans 1 (answersIn (now (log .entry)) n)) (now (buffer .entry)) 0 r (now (buffer .exit)) ⌝ }
 {
     let mut next: usize = 0;
@@ -249,7 +253,7 @@ fn add_end_line(buffer: &mut [u8], at: usize, events: u64, ok: u64, refused: u64
 
 // The text of a run of so many scans whose answers stand in a log.
 fn print_log(buffer: &mut [u8], scans: u16, log: &[u64], n: u16) -> Written
-    requires { ⌜ 2 * n ≤ length (now log) ⌝ }
+    requires { ⌜ perAnswer * n ≤ length (now log) ⌝ }
     ensures { λ r. ⌜ (r ≡ textWritten (runText scans (answersIn (now (log .entry)) n)) (now (buffer .entry)))
         × (now (buffer .exit) ≡ afterText (runText scans (answersIn (now (log .entry)) n)) (now (buffer .entry))) ⌝ }
 {
@@ -279,9 +283,11 @@ fn print_refusal(buffer: &mut [u8], no: u8) -> Written
 }
 
 // Room for the numbers of the most events that a schedule has, and for their answers.
-const MOST_NUMBERS: usize = 12_288;
+const MOST_EVENTS: usize = 4_096;
 
-const MOST_ANSWERS: usize = 8_192;
+const MOST_NUMBERS: usize = 3 * MOST_EVENTS;
+
+const MOST_ANSWERS: usize = PER_ANSWER * MOST_EVENTS;
 
 // The text of a run from fresh.
 fn print_run(buffer: &mut [u8], events: &[u64], header: Header) -> Written

@@ -16,7 +16,8 @@ use Rattle.model.specs.declared.Event.{Event}
 use Rattle.model.specs.declared.Answer.{Answer}
 use Rattle.model.specs.declared.Answer.the-variants.{Ok}
 use Rattle.model.proofs.Moments.{last}
-use Rattle.machine.specs.Calls.{eventsIn, said, logged, runNo, StepCall, RunCall}
+use Rattle.machine.specs.Log.{said, logged}
+use Rattle.machine.specs.Calls.{eventsIn, runNo, StepCall, RunCall}
 use Rattle.machine.specs.Histories.{doneBy, History}
 use Rattle.machine.proofs.RunLaws.{length-answers}
 use Rattle.machine.proofs.Histories.{calls-safe}

@@ -3,7 +3,7 @@ use mathlib.Core.Path.{_≡_, refl, sym, ap, subst, _∙_}
 use mathlib.Core.Logic.{_⊎_, inl, inr}
 use mathlib.Core.Bool.{Bool, true, false, false≢true}
 use mathlib.Core.List.{List, [], _∷_, _++_, map}
-use Prim.Native.Nat.{ℕ, _+_, _≤_}
+use Prim.Native.Nat.{ℕ, _+_, _*_, _≤_}
 use native.Mathlib.Omega.{arith}
 use lib.Dec.{leb}
 use lib.ListN.{length, take, drop}
@@ -29,14 +29,14 @@ use Rattle.model.proofs.Lists.{All, none, also}
 use Rattle.model.proofs.Answers.{Named, all-named}
 use Rattle.model.proofs.Computing.{theSets, theStep, settledRun, run-settled}
 use Rattle.model.proofs.Examples.{seven-answers}
-use Rattle.machine.specs.Calls.{eventsIn, hasNumbers, logged, runNo, afterRun, logAfterRun, wholeRunNo, logAfterWholeRun}
-use Rattle.printer.specs.Log.{answersIn}
+use Rattle.machine.specs.Log.{perAnswer, logged, answersIn}
+use Rattle.machine.specs.Calls.{eventsIn, hasNumbers, runNo, afterRun, logAfterRun, wholeRunNo, logAfterWholeRun}
 use Rattle.printer.specs.Text.{setWidth, setText, lines, linesFrom, okCount, refusedCount, endWith, endLine, runText, textWritten, afterText}
 use Rattle.printer.specs.Printing.{textOfRead, text}
-use Rattle.printer.proofs.ReadBack.{Small, read-back}
 use Rattle.printer.proofs.Example.{example-text}
 use Rattle.tight.specs.Rejected.{StepProgram, PrintProgram, StepKept, RunKept, WholeRunKept, PrintKept, small, numbers, example, saidBy, leftBy, shown, printed, Says, LeftBehind, RefusesEvery, AlwaysOk, ChangesNothing, PretendsOk, PretendsDone, InventsCounts}
 use Rattle.machine.proofs.AnswerNumbers.{step-number}
+use Rattle.machine.proofs.ReadBack.{Small, read-back}
 use Rattle.tight.proofs.One.{one-step, one-run}
 use Rattle.tight.proofs.Texts.{refusal-no-run, nothing-no-run, Alike, ok-same, refused-same, later-alike, one-text}
 
@@ -93,9 +93,9 @@ small-seven : All Small seven
 small-seven = also tt (also tt (also tt (also {x = Refused 6} (omega arith, omega arith) (also {x = learnt} (omega arith) (also tt (also {x = decided} (omega arith) none))))))
 
 -- where there is room for their answers
-module _ (log : List ℕ) (h : 14 ≤ length log) where
+module _ (log : List ℕ) (h : perAnswer * 7 ≤ length log) where
   enough : hasNumbers numbers 7 log ≡ true
-  enough = rw (le-leb 14 (length log) h)
+  enough = rw (le-leb (perAnswer * 7) (length log) h)
 
   in-range : recordsInRange small (fresh small) ≡ true
   unfolding theStep
@@ -115,7 +115,7 @@ module _ (log : List ℕ) (h : 14 ≤ length log) where
   whole-log = rw (in-sizes, enough, run-says)
 
   logged-back : answersIn (logged seven log) 7 ≡ seven
-  logged-back = read-back seven (drop 14 log) small-seven
+  logged-back = read-back seven (drop (perAnswer * 7) log) small-seven
 
 -- ---- printed texts
 

@@ -10,7 +10,8 @@ use Rattle.model.specs.Safety.{moment}
 use Rattle.model.specs.declared.Event.{Event}
 use Rattle.model.specs.declared.Answer.{Answer}
 use Rattle.model.specs.declared.Answer.the-variants.{Ok}
-use Rattle.machine.specs.Calls.{logged, StepCall, RunCall}
+use Rattle.machine.specs.Log.{logged}
+use Rattle.machine.specs.Calls.{StepCall, RunCall}
 use Rattle.machine.specs.Histories.{doneBy}
 
 -- after the events es the records are s; calls go on from there, and after the events fs the records are t

@@ -1,7 +1,7 @@
 -- Document 01, "How tight the statements are": programs of the step, the run, the whole run and the printer, what it is to keep the call's promise, and the five that have to be rejected. They are looked at on document 01's example.
 use mathlib.Core.Path.{_≡_}
 use mathlib.Core.List.{List, [], _∷_, _++_}
-use Prim.Native.Nat.{ℕ, _≤_}
+use Prim.Native.Nat.{ℕ, _*_, _≤_}
 use lib.ListN.{length, take, drop}
 use Rattle.sizes.specs.declared.Sizes.{Sizes}
 use Rattle.numbers.specs.Coding.{writtenNo}
@@ -11,8 +11,8 @@ use Rattle.model.specs.Records.{State, fresh}
 use Rattle.model.specs.Step.{Stepped, run}
 use Rattle.model.specs.declared.Event.{Event}
 use Rattle.model.specs.declared.Answer.{Answer}
+use Rattle.machine.specs.Log.{perAnswer, answersIn}
 use Rattle.machine.specs.Calls.{eventsIn, StepCall, RunCall, WholeRunCall}
-use Rattle.printer.specs.Log.{answersIn}
 use Rattle.printer.specs.Text.{linesFrom, okCount, refusedCount, endWith, endLine, textWrittenNo, textWritten, afterText}
 use Rattle.printer.specs.Printing.{text}
 
@@ -100,15 +100,15 @@ printed p = shown (p .answer) (p .buffer)
 -- what the seven events are said to be: by seven steps, by the log of a run or of a whole run, or by a printed text's lines, of whatever number of scans and whatever its last line counts
 pub data Says : List Answer → Type 0 where
   bySteps : (f : StepProgram) → StepKept f → Says (saidBy f small (fresh small) (eventsIn numbers 7))
-  byRun : (f : RunProgram) → RunKept f → (log : List ℕ) → 14 ≤ length log → Says (answersIn (f small (fresh small) numbers 7 log .log) 7)
-  byWholeRun : (f : WholeRunProgram) → WholeRunKept f → (log : List ℕ) → 14 ≤ length log → Says (answersIn (f small numbers 7 log .log) 7)
+  byRun : (f : RunProgram) → RunKept f → (log : List ℕ) → perAnswer * 7 ≤ length log → Says (answersIn (f small (fresh small) numbers 7 log .log) 7)
+  byWholeRun : (f : WholeRunProgram) → WholeRunKept f → (log : List ℕ) → perAnswer * 7 ≤ length log → Says (answersIn (f small numbers 7 log .log) 7)
   byText : (f : PrintProgram) → PrintKept f → (buffer : List ℕ) (s : ℕ) (ws : List Answer) (events ok refused : ℕ)
       → printed (f buffer example) ≡ linesFrom s 1 ws ++ endWith events ok refused → Says ws
 
 -- the records that the seven events leave: by seven steps, or by a run
 pub data LeftBehind : State → Type 0 where
   bySteps : (f : StepProgram) → StepKept f → LeftBehind (leftBy f small (fresh small) (eventsIn numbers 7))
-  byRun : (f : RunProgram) → RunKept f → (log : List ℕ) → 14 ≤ length log → LeftBehind (f small (fresh small) numbers 7 log .state)
+  byRun : (f : RunProgram) → RunKept f → (log : List ℕ) → perAnswer * 7 ≤ length log → LeftBehind (f small (fresh small) numbers 7 log .state)
 
 -- ---- the five programs
 

@@ -1,7 +1,7 @@
 -- `printer::print_log` meets its contract. Assumes nothing.
 use Prim.Native.Nat.{_-_}
 use native.Mathlib.Omega.{arith}
-use Rattle.printer.specs.Log.{answersIn}
+use Rattle.machine.specs.Log.{answersIn}
 use Rattle.printer.specs.Text.{runText}
 use Rattle.printer.proofs.Adding.{after, no-room, printed}
 use Rattle.printer.proofs.Lengths.{end-most}

@@ -4,6 +4,8 @@ use Prim.Native.Nat.{ℕ, _*_, _≤_}
 use native.Mathlib.Omega.{arith}
 use lib.ListN.{length, replicate, length-replicate}
 use borrow.Author.Needs.{needs}
+use Rattle.sizes.specs.Events.{mostEvents}
+use Rattle.machine.specs.Log.{perAnswer}
 use Rattle.printer.proofs.Printing.{run-printed}
 use Rattle.printer.proofs.print_run.Statement.{statement}
 use Rattle.printer.proofs.print_run.Tie as tie
@@ -28,8 +30,8 @@ returns c =
     let x = c .before .before .before .before .before .before .before .before .before .before in
     let a = x .args in
     let w = c .before .before .before .before .before .before .whole-run in
-    let log : List ℕ = replicate 8_192 0 in
-    let room : 2 * a .header .events ≤ length log = omega (arith, x .pre .1 .0, length-replicate {A = ℕ} 8_192 0) in
+    let log : List ℕ = replicate (perAnswer * mostEvents) 0 in
+    let room : perAnswer * a .header .events ≤ length log = omega (arith, x .pre .1 .0, length-replicate {A = ℕ} (perAnswer * mostEvents) 0) in
     run-printed (a .header .sizes) (a .events .now) log (a .header .events) (x .pre .0) (x .pre .1 .0) (x .pre .1 .1) room (a .buffer .now) _ _ _ (w .ensures .1) (c .before .before .print-log .ensures)
 
 pub print-run-spec : {M : Type 1} → statement M

@@ -38,7 +38,8 @@ use denote.Triple.Table.{entered, cited}
 use denote.Triple.Walked.{says, needs, Stays, stay-none, stay-none-slice, stay-slice, walkOf, goes-none, goes-none-slice, goes-slice, Walks, ends-at, walked, walk-meets}
 use denote.Exit.{yes}
 use Rattle.machine.specs.Stepping.{Left, stepOf, Fits}
-use Rattle.machine.specs.Running.{noted, Ran, onward, ranTo, driven, Drives}
+use Rattle.machine.specs.Log.{perAnswer, noted}
+use Rattle.machine.specs.Running.{Ran, onward, ranTo, driven, Drives}
 use Rattle.machine.specs.Calls.{eventOf}
 use Rattle.machine.proofs.Frees.{full, bare, allocates, frees-all}
 use Rattle.machine.proofs.Moves.{locals, land-in, lends-again}
@@ -296,7 +297,7 @@ module _ {M : Type 1} (𝓤 : URA M) (H : Heap 𝓤) (A : Atoms 𝓤) (W : Given
           log′ : List ℕ
           log′ = noted (r .log) k (done′ .answer)
 
-          fitting : Holds (ltb k n) → Fits z ps acs ls t × ((3 * n ≤ n₄) × (2 * n ≤ n₅))
+          fitting : Holds (ltb k n) → Fits z ps acs ls t × ((3 * n ≤ n₄) × (perAnswer * n ≤ n₅))
           fitting on = drives (omega (arith, low on))
 
           still : Holds (ltb k n) → Fits z (r .proposers) (r .acceptors) (r .learners) (r .slots)

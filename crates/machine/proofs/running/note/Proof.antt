@@ -1,3 +1,6 @@
+use native.Mathlib.Omega.{arith}
+use native.Mathlib.Numerals.{add-one}
+use lib.ListN.{length-set}
 use borrow.Author.Needs.{needs}
 use Rattle.machine.proofs.running.note.Statement.{statement}
 use Rattle.machine.proofs.running.note.Tie as tie
@@ -24,13 +27,13 @@ mul-log-2 : tie.Need-mul-log-2
 mul-log-2 c = search needs
 
 slice-write-log-2 : tie.Need-slice-write-log-2
-slice-write-log-2 c = search needs
+slice-write-log-2 c = simp length-set (omega arith)
 
 same-length : tie.Need-same-length
 same-length c = search needs
 
 returns : tie.Need-returns
-returns c = simp (c .said-set .ensures, c .before .said-no .ensures)
+returns c = simp (add-one, c .said-set .ensures, c .before .said-no .ensures)
 
 pub note-spec : {M : Type 1} → statement M
 note-spec =

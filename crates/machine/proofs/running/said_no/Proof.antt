@@ -1,5 +1,5 @@
 use borrow.Author.Needs.{needs}
-use Rattle.machine.specs.Calls.{saidNo}
+use Rattle.machine.specs.Log.{saidNo}
 use Rattle.machine.proofs.running.said_no.Statement.{statement}
 use Rattle.machine.proofs.running.said_no.Tie as tie
 

@@ -1,5 +1,5 @@
 use borrow.Author.Needs.{needs}
-use Rattle.machine.specs.Calls.{saidSet}
+use Rattle.machine.specs.Log.{saidSet}
 use Rattle.machine.proofs.running.said_set.Statement.{statement}
 use Rattle.machine.proofs.running.said_set.Tie as tie
 

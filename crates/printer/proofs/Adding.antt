@@ -4,7 +4,7 @@ use mathlib.Core.List.{List, _++_, append-assoc}
 use Prim.Native.Nat.{ℕ, _+_, _≤_, _<_}
 use native.Mathlib.Omega.{arith}
 use lib.ListN.{length, length-append}
-use lib.Seq.{sets}
+use lib.Seq.{sets, length-sets}
 use Rattle.forms.proofs.Steps.{sets-append}
 use Rattle.numbers.specs.Coding.{refusedWrite, writtenNo}
 use Rattle.numbers.specs.declared.Written.{Written}
@@ -28,6 +28,13 @@ after {t} {u} {d} {at = at} p q =
 -- a text and then two as one
 pub after-both : (u v : List ℕ) {t d e f : List ℕ} {at mid next : ℕ} → Adds t d at mid e → Adds (u ++ v) e mid next f → Adds (t ++ u ++ v) d at next f
 after-both u v {t} p q = rw (append-assoc t u v) (after p q)
+
+-- room for two texts: for the first, and after it for the second
+pub first-room : (at : ℕ) (t u : List ℕ) {n : ℕ} → at + length (t ++ u) ≤ n → at + length t ≤ n
+first-room at t u h = omega (arith, length-append t u)
+
+pub second-room : (t u : List ℕ) {d e : List ℕ} {at next : ℕ} → at + length (t ++ u) ≤ length d → Adds t d at next e → next + length u ≤ length e
+second-room t u {d} {at = at} h p = omega (arith, p .place, length-append t u, ap length (p .bytes) ∙ length-sets d at t)
 
 -- ---- the answers of a printer
 

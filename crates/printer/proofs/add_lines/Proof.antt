@@ -1,9 +1,7 @@
 -- `printer::add_lines` meets its contract. Assumes nothing.
-use native.Mathlib.Omega.{arith}
-use lib.ListN.{length-append}
 use Rattle.text.specs.Words.{bytes}
-use Rattle.printer.specs.Text.{lines}
-use Rattle.printer.proofs.Adding.{after}
+use Rattle.printer.specs.Text.{okLine, learntLine, decidedLine, lines}
+use Rattle.printer.proofs.Adding.{after, first-room, second-room}
 use borrow.Author.Needs.{needs}
 use Rattle.printer.proofs.add_lines.Statement.{statement}
 use Rattle.printer.proofs.add_lines.Tie as tie
@@ -27,8 +25,9 @@ slice-aggregate-add-number-2 c = search needs
 add-number-requires-2 : tie.Need-add-number-requires-2
 unfolding lines bytes
 add-number-requires-2 c κs =
-    let h = simp (c .before .before .before .answer .given .1, length-append) at (c .before .before .before .before .before .before .pre) in
-    simp length-append (omega arith)
+    let a = c .before .before .before .before .before .before .args in
+    let g = c .before .before .before .answer .given in
+    first-room (a .at) (okLine (a .place)) (learntLine (a .scans) (a .place) (g .0 .0 .0) (g .0 .1 .0)) (rw (g .1) at (c .before .before .before .before .before .before .pre))
 
 slice-aggregate-add-set-line : tie.Need-slice-aggregate-add-set-line
 slice-aggregate-add-set-line c = search needs
@@ -39,9 +38,13 @@ cast-add-set-line c = search needs
 add-set-line-requires : tie.Need-add-set-line-requires
 unfolding lines bytes
 add-set-line-requires c κs =
-    let h = simp (c .before .before .before .before .before .before .before .before .before .answer .given .1, length-append) at (c .before .before .before .before .before .before .before .before .before .before .before .before .pre) in
-    let p = simp length-append at (c .before .before .before .before .before .add-number2 .ensures .place) in
-    simp length-append (omega arith)
+    let a = c .before .before .before .before .before .before .before .before .before .before .before .before .args in
+    let g = c .before .before .before .before .before .before .before .before .before .answer .given in
+    second-room
+    (okLine (a .place))
+    (learntLine (a .scans) (a .place) (g .0 .0 .0) (g .0 .1 .0))
+    (rw (g .1) at (c .before .before .before .before .before .before .before .before .before .before .before .before .pre))
+    (c .before .before .before .before .before .add-number2 .ensures)
 
 enum-known-answer-2 : tie.Need-enum-known-answer-2
 enum-known-answer-2 c = search needs
@@ -52,8 +55,9 @@ slice-aggregate-add-number-3 c = search needs
 add-number-requires-3 : tie.Need-add-number-requires-3
 unfolding lines bytes
 add-number-requires-3 c κs =
-    let h = simp (c .before .before .before .answer2 .given .1, length-append) at (c .before .before .before .before .before .before .pre) in
-    simp length-append (omega arith)
+    let a = c .before .before .before .before .before .before .args in
+    let g = c .before .before .before .answer2 .given in
+    first-room (a .at) (okLine (a .place)) (decidedLine (a .scans) (a .place) (g .0 .0 .0) (g .0 .1 .0)) (rw (g .1) at (c .before .before .before .before .before .before .pre))
 
 slice-aggregate-add-set-line-2 : tie.Need-slice-aggregate-add-set-line-2
 slice-aggregate-add-set-line-2 c = search needs
@@ -64,9 +68,13 @@ cast-add-set-line-2 c = search needs
 add-set-line-requires-2 : tie.Need-add-set-line-requires-2
 unfolding lines bytes
 add-set-line-requires-2 c κs =
-    let h = simp (c .before .before .before .before .before .before .before .before .before .answer2 .given .1, length-append) at (c .before .before .before .before .before .before .before .before .before .before .before .before .pre) in
-    let p = simp length-append at (c .before .before .before .before .before .add-number3 .ensures .place) in
-    simp length-append (omega arith)
+    let a = c .before .before .before .before .before .before .before .before .before .before .before .before .args in
+    let g = c .before .before .before .before .before .before .before .before .before .answer2 .given in
+    second-room
+    (okLine (a .place))
+    (decidedLine (a .scans) (a .place) (g .0 .0 .0) (g .0 .1 .0))
+    (rw (g .1) at (c .before .before .before .before .before .before .before .before .before .before .before .before .pre))
+    (c .before .before .before .before .before .add-number3 .ensures)
 
 enum-known-answer-3 : tie.Need-enum-known-answer-3
 enum-known-answer-3 c = search needs

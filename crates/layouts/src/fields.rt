@@ -232,7 +232,7 @@ pub fn is_answer(acceptors: u64, acceptor: u64, number: u64) -> bool
 }
 
 // A flag is 0 or 1.
-pub(crate) fn is_flag(bytes: &[u8], at: u16) -> bool
+pub fn is_flag(bytes: &[u8], at: u16) -> bool
     ensures { λ r. ⌜ r ≡ isFlag (now (bytes .entry)) at ⌝ }
 {
     byte_at(bytes, at as usize) <= 1

@@ -1,12 +1,15 @@
 -- What a proposal's call gives, and what it leaves in the acceptor's record and in the reply, by the tests that are passed and by what the machine's call replied.
-use mathlib.Core.Bool.{Bool, true, false}
+use mathlib.Core.Bool.{Bool, true, false, _&&_, false≢true}
 use mathlib.Core.List.{List}
 use mathlib.Core.Path.{_≡_, refl, sym, ap, _∙_}
 use Prim.Native.Nat.{ℕ}
 use lib.Dec.{eqb}
 use lib.ListN.{length}
 use lib.Seq.{sets}
+use borrow.Author.Tests.{eq-eqb}
+use Rattle.choice.specs.Tests.{_unless_, _⨾_, ok}
 use Rattle.choice.proofs.Tests.{and-l, and-r}
+use Rattle.sets.specs.Acceptors.{mostAcceptors}
 use Rattle.sets.specs.Scans.{fits}
 use Rattle.sets.specs.declared.scans.Scans.{Scans}
 use Rattle.sizes.specs.Sizes.{scansInRange, sizesInRange}
@@ -17,9 +20,26 @@ use Rattle.machine.specs.Acceptors.{answeringNo, replyTo, recordAfter}
 use Rattle.machine.specs.declared.acceptors.Reply.{Reply}
 use Rattle.machine.specs.declared.acceptors.Reply.the-variants.{Accepted, Rejected, Refused}
 use Rattle.machine.proofs.Replies.{told-accepted, told-rejected, told-refused, record-left}
-use Rattle.layouts.specs.Layout.{setSize, setAt, isSet, flagged, flaggedSize, isAcceptor, acceptorAt, acceptorBytes}
+use Rattle.layouts.specs.Layout.{setSize, setAt, isFlag, isSet, flagged, flaggedSize, isAcceptor, acceptorAt, acceptorBytes}
 use Rattle.layouts.proofs.Parts.{flagged-whole, acceptor-length}
 use Rattle.yazhmandu.specs.Calls.{proposalNo, answerRecord, answerReply}
+
+fails : (t : Bool) → (t ≡ true → ⊥) → t ≡ false
+fails true h = absurd (h refl)
+fails false h = refl
+
+ends : (x y : Bool) → (x && true && true && y) ≡ (x && y)
+ends true y = refl
+ends false y = refl
+
+-- two tests of one refusal are one
+each : (x y : Bool) (rest : ℕ) → (1 unless (x && y) ⨾ rest) ≡ (1 unless x ⨾ 1 unless y ⨾ rest)
+each true y rest = refl
+each false y rest = refl
+
+acceptor-flag : (s : ℕ) (kept : List ℕ) → isAcceptor s kept ≡ true → isFlag kept 0 ≡ true
+unfolding isAcceptor
+acceptor-flag s kept e = search (and-l, and-r) depth 9
 
 module _ (s : ℕ) (kept set old : List ℕ) where
   -- it gives n and leaves the record k and the reply b
@@ -39,13 +59,19 @@ module _ (s : ℕ) (kept set old : List ℕ) where
     unfolding proposalNo isSet
     no-set f = refused-by 3 refl (rw (e, f))
 
-    in-range : scansInRange s ≡ true
-    unfolding isAcceptor sizesInRange
-    in-range = search (and-l, and-r) depth 9
+  -- ---- a flag and a set
 
-    fitting : fits (acceptorAt kept .accepted) s ≡ true
-    unfolding isAcceptor acceptorInRange
-    fitting = search (and-l, and-r) depth 9
+  pub no-record : (length kept ≡ flaggedSize → ⊥) → Replied 1 kept old
+  no-record h = no-acceptor (fails (isAcceptor s kept) (λ e. h (acceptor-length s kept e)))
+
+  pub no-flag : isFlag kept 0 ≡ false → Replied 1 kept old
+  no-flag h = no-acceptor (fails (isAcceptor s kept) (λ e. false≢true (sym h ∙ acceptor-flag s kept e)))
+
+  module _ (n : length kept ≡ flaggedSize) (g : isFlag kept 0 ≡ true) where
+    -- what is left to test of the record then
+    acceptor-left : isAcceptor s kept ≡ (scansInRange s && fits (acceptorAt kept .accepted) s)
+    unfolding isAcceptor acceptorInRange sizesInRange mostAcceptors
+    acceptor-left = rw (eq-eqb (length kept) flaggedSize n, g) (ends (scansInRange s) (fits (acceptorAt kept .accepted) s))
 
     module _ (f : eqb (length set) setSize ≡ true) where
       abbrev q : Acceptor
@@ -57,7 +83,7 @@ module _ (s : ℕ) (kept set old : List ℕ) where
       -- past the record and the set's length, the tests are the machine's
       same-number : proposalNo s kept set ≡ answeringNo s q v
       unfolding proposalNo isSet answeringNo
-      same-number = rw (e, f, in-range, fitting) refl
+      same-number = rw (acceptor-left, f) (each (scansInRange s) (fits (q .accepted) s) (3 unless fits v s ⨾ 5 unless q .alive ⨾ ok))
 
       -- what the machine's call hands back, on the record and the set that stand in the bytes
       module _ {before after : Acceptor} {proposed : Scans} {r : Reply} (i : before ≡ q) (j : proposed ≡ v) (given : (after ≡ recordAfter s before proposed) × (r ≡ replyTo s before proposed)) where
@@ -79,7 +105,7 @@ module _ (s : ℕ) (kept set old : List ℕ) where
         answered t {w} whole told g h =
             let z : proposalNo s kept set ≡ 0 = same-number ∙ told .0 in
             let a : after ≡ answering q v = left ∙ record-left s q v (told .0) in
-            let put = flagged-whole kept (after .alive) (after .accepted) (acceptor-length s kept e) in
+            let put = flagged-whole kept (after .alive) (after .accepted) n in
             let sent = flagged-whole old t w whole in
             (sym z, rw z (g ∙ put ∙ ap (λ (p : Acceptor). flagged (p .alive) (p .accepted)) a), rw (z, told .1) (h ∙ sent ∙ ap (flagged t) (told .2)))
 

@@ -1,6 +1,6 @@
 -- How the loops over a learner's places go.
 use mathlib.Core.Bool.{Bool, true, false, _&&_}
-use mathlib.Core.List.{List, [], _∷_, _++_, append-assoc, append-nil}
+use mathlib.Core.List.{List, [], _∷_, _++_, append-assoc}
 use mathlib.Core.Logic.{⊎-elim}
 use mathlib.Core.Path.{_≡_, refl, sym, ap, _∙_}
 use Prim.Native.Nat.{ℕ, zero, suc, _+_, _-_, _*_, _≤_, _<_, min}
@@ -8,7 +8,7 @@ use native.Mathlib.Nat.{min-eq-left, min-eq-right, min-le-right}
 use native.Mathlib.Numerals.{add-one}
 use native.Mathlib.Omega.{arith}
 use lib.ListN.{length, getD, set, take, drop, replicate, length-set, length-append, length-replicate}
-use lib.Seq.{sets, sets-eq, take-suc, take-at, take-all, drop-at, split-at, length-take-le, set-at, set-split, append-snoc}
+use lib.Seq.{sets, sets-eq, take-at, drop-at, split-at, length-take-le, set-split}
 use borrow.Author.Tests.{eq-eqb}
 use Rattle.sets.specs.Scans.{fits}
 use Rattle.sizes.specs.Sizes.{sizesInRange}
@@ -40,12 +40,6 @@ places i bytes = placesAt i bytes ++ replicate (8 - i) unheard
 eight-read : (i : ℕ) (bytes : List ℕ) → i ≤ 8 → length (places i bytes) ≡ 8
 eight-read i bytes h =
     length-append (placesAt i bytes) (replicate (8 - i) unheard) ∙ omega (arith, length-places-at i bytes, length-replicate (8 - i) unheard)
-
-pub read-place : (i : ℕ) (bytes : List ℕ) → i < 8 → set (places i bytes) i (heardAt bytes (heardPlace i)) ≡ places (i + 1) bytes
-unfolding placesAt
-read-place i bytes h =
-    let p : 8 - i ≡ suc (8 - (i + 1)) = omega arith in
-    rw (p, add-one i) (set-at (placesAt i bytes) unheard (replicate (8 - suc i) unheard) (heardAt bytes (heardPlace i)) i (length-places-at i bytes) ∙ sym (append-snoc (placesAt i bytes) (heardAt bytes (heardPlace i)) (replicate (8 - suc i) unheard)))
 
 -- a greater number than eight leaves none unread
 pub eight-left : (p : ℕ) → 8 - min p 8 ≡ 8 - p
@@ -107,17 +101,6 @@ unfolding placesBytes
 places-append [] ks = refl
 places-append (h ∷ hs) ks = ap (λ (l : List ℕ). heardBytes h ++ l) (places-append hs ks) ∙ sym (append-assoc (heardBytes h) (placesBytes hs) (placesBytes ks))
 
--- the place after the first i
-pub put-place : (kept : List ℕ) (hs : List Heard) (i : ℕ) → i < length hs
-    → sets (sets kept flaggedSize (placesBytes (take i hs))) (heardPlace i) (heardBytes (getD hs i unheard)) ≡ sets kept flaggedSize (placesBytes (take (i + 1) hs))
-unfolding placesBytes
-put-place kept hs i h =
-    let us = placesBytes (take i hs) in
-    let v = heardBytes (getD hs i unheard) in
-    let n : heardPlace i ≡ flaggedSize + length us = omega (arith, length-places (take i hs), length-take-le i hs (omega arith)) in
-    let e : placesBytes (take (suc i) hs) ≡ us ++ v = ap placesBytes (take-suc hs i unheard h) ∙ places-append (take i hs) (getD hs i unheard ∷ []) ∙ ap (λ (l : List ℕ). us ++ l) (append-nil v) in
-    rw (add-one i, e, n) (sym (sets-append us v kept flaggedSize))
-
 -- bytes put over as many in the middle
 pub sets-middle : (us old rest new : List ℕ) (at : ℕ) → length us ≡ at → length old ≡ length new → sets (us ++ old ++ rest) at new ≡ us ++ new ++ rest
 sets-middle us old rest new at e f =
@@ -164,14 +147,6 @@ pub learner-whole : (p a s : ℕ) (bytes : List ℕ) (l : Learner) → length (l
 learner-whole p a s bytes l h e =
     let m : p ≤ length (l .heard) = omega (arith, few-proposers p a s (learner-sizes p a s bytes e)) in
     put-whole bytes (learnerBytes p l) (learner-length p a s bytes e ∙ sym (length-learner p l m))
-
--- the places of a greater number are all eight
-pub take-eight : (p : ℕ) (hs : List Heard) → length hs ≡ 8 → take (min p 8) hs ≡ take p hs
-take-eight p hs e =
-    ⊎-elim
-    (λ (h : p ≤ 8). ap (λ (n : ℕ). take n hs) (min-eq-left h))
-    (λ (h : 8 ≤ p). ap (λ (n : ℕ). take n hs) (min-eq-right h) ∙ take-all 8 hs (omega arith) ∙ sym (take-all p hs (omega arith)))
-    (earlier p 8)
 
 -- the parts of a learner's record, put one after the other
 pub put-learner-parts : (b₀ : List ℕ) (p : ℕ) {b₁ b₂ b₃ : List ℕ} (l : Learner) {hs : List Heard}

@@ -1,26 +1,21 @@
-// A learner's record. It has 8 places: a greater number of proposers counts as 8.
+// A learner's record: alive and learnt, then a place for each proposer of the run.
 ghost use mathlib.Core.Path.{_≡_};
-ghost use Prim.Native.Nat.{_≤_, _<_};
-ghost use lib.ListN.{take};
+ghost use Prim.Native.Nat.{_≤_};
 ghost use lib.Seq.{sets};
-ghost use Rattle.layouts.specs.Layout.{flaggedSize, heardPlace, heardAt, heardBytes, placesAt, placesBytes, isLearner, learnerAt, learnerBytes};
+ghost use Rattle.layouts.specs.Layout.{heardPlace, heardAt, heardBytes, placesAt, isLearner};
 ghost use Rattle.model.specs.Ranges.{all, heardInRange};
 use crate::fields::FLAGGED_SIZE;
 use crate::fields::SET_SIZE;
 use crate::fields::acceptors_at;
-use crate::fields::at_most;
-use crate::fields::flag_at;
 use crate::fields::is_flag;
 use crate::fields::number_at;
 use crate::fields::put_acceptors;
-use crate::fields::put_flag;
 use crate::fields::put_number;
 use crate::fields::put_set;
 use crate::fields::set_at;
 use crate::fields::sizes_of;
 use choice::both;
 use model::Heard;
-use model::Learner;
 use sets::ProposerId;
 use sizes::Sizes;
 
@@ -58,46 +53,6 @@ pub fn put_heard(kept: &mut [u8], proposer: ProposerId, heard: Heard)
     put_number(kept, at, heard.number);
     put_set(kept, at + 2, heard.set);
     put_acceptors(kept, at + HEARD_ACCEPTORS, heard.acceptors);
-}
-
-pub fn learner_at(kept: &[u8], proposers: u64) -> Learner
-    ensures { λ r. ⌜ r ≡ learnerAt proposers (now (kept .entry)) ⌝ }
-{
-    let alive = flag_at(kept, 0);
-    let learnt = set_at(kept, 1);
-    let count = at_most(proposers, 8);
-    let mut heard = [Heard::unheard(); 8];
-    let mut i: u16 = 0;
-    while i < count {
-        heard[i as usize] = heard_at(kept, ProposerId(i as u8));
-        i += 1;
-    }
-    Learner {
-        alive,
-        learnt,
-        heard,
-    }
-}
-
-// Puts what was heard of the first proposers.
-fn put_places(kept: &mut [u8], l: Learner, count: u16)
-    requires { ⌜ count ≤ 8 ⌝ }
-    ensures { λ _. ⌜ now (kept .exit) ≡ sets (now (kept .entry)) flaggedSize (placesBytes (take count (l .heard))) ⌝ }
-{
-    let mut i: u16 = 0;
-    while i < count {
-        let heard = l.heard[i as usize];
-        put_heard(kept, ProposerId(i as u8), heard);
-        i += 1;
-    }
-}
-
-pub fn put_learner(kept: &mut [u8], l: Learner, proposers: u64)
-    ensures { λ _. ⌜ now (kept .exit) ≡ sets (now (kept .entry)) 0 (learnerBytes proposers l) ⌝ }
-{
-    put_flag(kept, 0, l.alive);
-    put_set(kept, 1, l.learnt);
-    put_places(kept, l, at_most(proposers, 8));
 }
 
 // Whether what was heard of the first proposers is within its ranges.

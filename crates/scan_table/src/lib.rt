@@ -118,13 +118,6 @@ fn number_at(fields: &[u64], place: usize) -> u64
     0
 }
 
-// The tag of a scan of a table's numbers, 0 past their end.
-pub fn tag_at(fields: &[u64], scan: ScanId) -> u64
-    ensures { λ r. ⌜ r ≡ scanAt (now (fields .entry)) (scan .0) .tag ⌝ }
-{
-    number_at(fields, scan.0 as usize * 4)
-}
-
 // A scan of a table's numbers, number by number, as it may be past their end.
 fn scan_past(fields: &[u64], scan: ScanId) -> Scan
     ensures { λ r. ⌜ r ≡ scanAt (now (fields .entry)) (scan .0) ⌝ }

@@ -26,7 +26,7 @@ use Rattle.decisions.specs.Change.{unchanged, freed, asProposer, answeri
 use Rattle.decisions.specs.Refusals.{aliveIn, slotNo, partyNo, testNo}
 use Rattle.decisions.specs.declared.arms.Decision.{Decision}
 use Rattle.decisions.specs.declared.arms.Ear.{Ear}
-use Rattle.decisions.specs.Arms.{armOfKind, armOfRole, armAt, armOf, takes, needOf, decideOf, refusedOf, finishOf, decidedIn, toldBy, deliveredNo, toldIn, earNo, listenOf, heardIn, plainAnswer}
+use Rattle.decisions.specs.Arms.{armOfKind, armOfRole, armAt, armOf, takes, needOf, decideOf, refusedOf, finishOf, decidedIn, toldBy, deliveredNo, toldIn, listened, earNo, heardNo, listenOf, heardIn, plainAnswer}
 
 -- ---- the events that an arm takes
 
@@ -48,12 +48,6 @@ is-taken n z e m s h = holds-both (sizesInRange z) (eqb (armOf e m) n) s h
 
 pub decided-in : (n : ℕ) (z : Sizes) (e : Event) (m : Message) (q : Proposer) (c : Acceptor) → sizesInRange z ≡ true → Holds (eqb (armOf e m) n) → decidedIn n z e m q c ≡ decideOf z e m q c freshLearner
 decided-in n z e m q c s h = ap (λ (b : Bool). if b then decideOf z e m q c freshLearner else refusedOf 2 q c) (is-taken n z e m s h)
-
-pub told-in : (z : Sizes) (e : Event) (m : Message) (q : Proposer) → sizesInRange z ≡ true → Holds (eqb (armOf e m) 4) → toldIn z e m q ≡ finishOf (decideOf z e m q freshAcceptor freshLearner) 0 q freshAcceptor
-told-in z e m q s h = ap (λ (b : Bool). if b then finishOf (decideOf z e m q freshAcceptor freshLearner) 0 q freshAcceptor else refusedOf 2 q freshAcceptor) (is-taken 4 z e m s h)
-
-pub heard-in : (z : Sizes) (e : Event) (m : Message) (x : Ear) → sizesInRange z ≡ true → Holds (eqb (armOf e m) 3) → heardIn z e m x ≡ listenOf z e m x
-heard-in z e m x s h = ap (λ (b : Bool). if b then listenOf z e m x else record { ear = x; frees = false; answer = Refused 2 }) (is-taken 3 z e m s h)
 
 -- ---- a proposer that is told
 
@@ -132,11 +126,23 @@ module _ (z : Sizes) (e : Event) (m : Message) (q : Proposer) (c : Acceptor) whe
   unfolding finishOf
   finish-refused n o = rw (ne-eqb n 0 o) refl
 
-  pub told-done : Holds (eqb (armOf e m) 4) → (n : ℕ) → n ≡ deliveredNo z e m (q .alive) → n ≡ 0 → told n ≡ finishOf (decideOf z e m q c freshLearner) 0 q c
-  told-done h n p o = finish-done n o ∙ ap (λ (d : Decision). finishOf d 0 q c) (sym (told-decided h n p))
+  told-by-no : Holds (eqb (armOf e m) 4) → (n : ℕ) (t : Bool) → t ≡ eqb n 0 → n ≡ deliveredNo z e m (q .alive) → (if t then told n else refusedOf n q c) ≡ finishOf (decideOf z e m q c freshLearner) 0 q c
+  told-by-no h n true o p = finish-done n (eqb→eq n 0 (subst Holds o tt)) ∙ ap (λ (d : Decision). finishOf d 0 q c) (sym (told-decided h n p))
+  told-by-no h n false o p = finish-refused n (λ z. subst Holds (sym (o ∙ eq-eqb n 0 z)) tt) ∙ ap (λ (d : Decision). finishOf d 0 q c) (sym (told-decided h n p))
 
-  pub told-refused : Holds (eqb (armOf e m) 4) → (n : ℕ) → n ≡ deliveredNo z e m (q .alive) → (n ≡ 0 → ⊥) → refusedOf n q c ≡ finishOf (decideOf z e m q c freshLearner) 0 q c
-  told-refused h n p o = finish-refused n o ∙ ap (λ (d : Decision). finishOf d 0 q c) (sym (told-decided h n p))
+module _ (z : Sizes) (e : Event) (m : Message) (q : Proposer) where
+  pub told-done : (n : ℕ) → n ≡ deliveredNo z e m (q .alive) → n ≡ 0 → record { no = n; need = 0; change = freed (toldBy q m (kindOf (m .kind))) freshAcceptor } ≡ toldIn z e m q
+  unfolding toldIn
+  told-done n p o = rw (sym p, eq-eqb n 0 o) refl
+
+  pub told-refused : (n : ℕ) → n ≡ deliveredNo z e m (q .alive) → (n ≡ 0 → ⊥) → refusedOf n q freshAcceptor ≡ toldIn z e m q
+  unfolding toldIn
+  told-refused n p o = rw (sym p, ne-eqb n 0 o) refl
+
+  -- where it is its event, this is what is decided of all records
+  pub told-in : Holds (eqb (armOf e m) 4) → toldIn z e m q ≡ finishOf (decideOf z e m q freshAcceptor freshLearner) 0 q freshAcceptor
+  unfolding toldIn
+  told-in h = told-by-no z e m q freshAcceptor h (deliveredNo z e m (q .alive)) (eqb (deliveredNo z e m (q .alive)) 0) refl refl
 
 -- ---- a learner's refusals
 
@@ -191,11 +197,26 @@ ear-code z a b m y decide h = absurd h
 ear-code z a b m y crash h = sym (ear-role z (roleOf a) b true true y h)
 ear-code z a b m y noCode h = absurd h
 
-pub ear-delivered : (z : Sizes) (e : Event) (m : Message) (y : Bool) (r : ℕ) → r ≡ deliveredNo z e m y → Holds (eqb (armOf e m) 3) → e .code ≡ 2 → r ≡ earNo z e m y
-ear-delivered z e m y r q h p = q ∙ sym (ear-code z (e .a) (e .b) m y (codeOf (e .code)) h ∙ ap (λ (n : ℕ). if isDeliver (codeOf n) then deliveredNo z e m y else partyNo (ltb (e .b) (z .learners)) y) p)
+ear-delivered : (z : Sizes) (e : Event) (m : Message) (y : Bool) → Holds (eqb (armOf e m) 3) → e .code ≡ 2 → deliveredNo z e m y ≡ earNo z e m y
+ear-delivered z e m y h p = sym (ear-code z (e .a) (e .b) m y (codeOf (e .code)) h ∙ ap (λ (n : ℕ). if isDeliver (codeOf n) then deliveredNo z e m y else partyNo (ltb (e .b) (z .learners)) y) p)
 
-pub ear-crashes : (z : Sizes) (e : Event) (m : Message) (y : Bool) (r : ℕ) → r ≡ partyNo (ltb (e .b) (z .learners)) y → Holds (eqb (armOf e m) 3) → (e .code ≡ 2 → ⊥) → r ≡ earNo z e m y
-ear-crashes z e m y r q h p = q ∙ sym (ear-code z (e .a) (e .b) m y (codeOf (e .code)) h ∙ ap (λ (t : Bool). if t then deliveredNo z e m y else partyNo (ltb (e .b) (z .learners)) y) (not-two (e .code) p))
+ear-crashes : (z : Sizes) (e : Event) (m : Message) (y : Bool) → Holds (eqb (armOf e m) 3) → (e .code ≡ 2 → ⊥) → partyNo (ltb (e .b) (z .learners)) y ≡ earNo z e m y
+ear-crashes z e m y h p = sym (ear-code z (e .a) (e .b) m y (codeOf (e .code)) h ∙ ap (λ (t : Bool). if t then deliveredNo z e m y else partyNo (ltb (e .b) (z .learners)) y) (not-two (e .code) p))
+
+heard-by-code : (z : Sizes) (e : Event) (m : Message) (y : Bool) → Holds (eqb (armOf e m) 3) → (t : Bool) → t ≡ eqb (e .code) 2 → (if t then deliveredNo z e m y else partyNo (ltb (e .b) (z .learners)) y) ≡ earNo z e m y
+heard-by-code z e m y h true o = ear-delivered z e m y h (eqb→eq (e .code) 2 (subst Holds o tt))
+heard-by-code z e m y h false o = ear-crashes z e m y h (λ p. subst Holds (sym (o ∙ eq-eqb (e .code) 2 p)) tt)
+
+pub heard-delivered : (z : Sizes) (e : Event) (m : Message) (y : Bool) (r : ℕ) → r ≡ deliveredNo z e m y → e .code ≡ 2 → r ≡ heardNo z e m y
+heard-delivered z e m y r q p = q ∙ rw (eq-eqb (e .code) 2 p) refl
+
+pub heard-crashes : (z : Sizes) (e : Event) (m : Message) (y : Bool) (r : ℕ) → r ≡ partyNo (ltb (e .b) (z .learners)) y → (e .code ≡ 2 → ⊥) → r ≡ heardNo z e m y
+heard-crashes z e m y r q p = q ∙ rw (ne-eqb (e .code) 2 p) refl
+
+-- where it is its event, this is what is decided of all records
+pub heard-in : (z : Sizes) (e : Event) (m : Message) (x : Ear) → Holds (eqb (armOf e m) 3) → heardIn z e m x ≡ listenOf z e m x
+unfolding heardIn listenOf
+heard-in z e m x h = ap (listened z e m x) (heard-by-code z e m (x .alive) h (eqb (e .code) 2) refl)
 
 -- ---- an acceptor
 

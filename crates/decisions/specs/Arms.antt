@@ -1,7 +1,7 @@
 -- What one event does to the records of its arm, by value: which arm takes it, what the arm decides, and what is answered.
 use mathlib.Core.Bool.{Bool, true, false, _&&_}
 use Prim.Native.Nat.{ℕ, _-_}
-use lib.Dec.{eqb}
+use lib.Dec.{eqb, ltb}
 use Rattle.choice.specs.Choice.{if_then_else_}
 use Rattle.choice.specs.Tests.{_unless_, _⨾_, refusal, ok}
 use Rattle.sizes.specs.Sizes.{sizesInRange}
@@ -16,8 +16,8 @@ use Rattle.model.specs.declared.Message.{Message}
 use Rattle.model.specs.declared.Event.{Event}
 use Rattle.model.specs.declared.Answer.{Answer}
 use Rattle.model.specs.declared.Answer.the-variants.{Ok, Learnt, Decided, Refused}
-use Rattle.decisions.specs.Change.{asProposer, unchanged, changeOf, acknowledgedBy, rejectedBy}
-use Rattle.decisions.specs.Refusals.{slotNo, testNo}
+use Rattle.decisions.specs.Change.{asProposer, unchanged, freed, changeOf, acknowledgedBy, rejectedBy}
+use Rattle.decisions.specs.Refusals.{slotNo, partyNo, testNo}
 use Rattle.decisions.specs.declared.decide.Change.{Change}
 use Rattle.decisions.specs.declared.arms.Decision.{Decision}
 use Rattle.decisions.specs.declared.arms.Ear.{Ear}
@@ -95,9 +95,12 @@ toldBy q m rejection = rejectedBy q m
 toldBy q m announcement = q
 toldBy q m noKind = q
 
--- it asks for no room
-abbrev pub toldIn : Sizes → Event → Message → Proposer → Decision
-toldIn z e m q = if takes 4 z e m then finishOf (decideOf z e m q freshAcceptor freshLearner) 0 q freshAcceptor else refusedOf 2 q freshAcceptor
+-- what a Deliver leaves of it: it asks for no room
+unfoldable pub toldIn : Sizes → Event → Message → Proposer → Decision
+toldIn z e m q =
+    if eqb (deliveredNo z e m (q .alive)) 0
+    then record { no = deliveredNo z e m (q .alive); need = 0; change = freed (toldBy q m (kindOf (m .kind))) freshAcceptor }
+    else refusedOf (deliveredNo z e m (q .alive)) q freshAcceptor
 
 -- what is answered where no learner hears
 unfoldable pub plainAnswer : Event → Decision → Answer
@@ -130,16 +133,22 @@ hears noCode = false
 unfoldable pub earSays : Sizes → Message → Ear → Code → Answer
 earSays z m x code = if hears code then (if teaches (z .acceptors) (x .learnt) (x .heard) m then Learnt (record { 0 = m .addressee }) (hearing (x .heard) m .set) else Ok) else Ok
 
--- the first refusal
+-- what an event leaves of it, and answers, where its refusal is n
+abbrev pub listened : Sizes → Event → Message → Ear → ℕ → Listened
+listened z e m x n =
+    if eqb n 0
+    then record { ear = earAt z m x (codeOf (e .code)); frees = hears (codeOf (e .code)); answer = earSays z m x (codeOf (e .code)) }
+    else record { ear = x; frees = false; answer = Refused n }
+
+-- the first refusal: of all events, and of a learner's alone, Deliver and Crash
 abbrev pub earNo : Sizes → Event → Message → Bool → ℕ
 earNo z e m alive = testNo z (e .a) (e .b) m freshProposer true alive (codeOf (e .code))
 
-unfoldable pub listenOf : Sizes → Event → Message → Ear → Listened
-listenOf z e m x =
-    if eqb (earNo z e m (x .alive)) 0
-    then record { ear = earAt z m x (codeOf (e .code)); frees = hears (codeOf (e .code)); answer = earSays z m x (codeOf (e .code)) }
-    else record { ear = x; frees = false; answer = Refused (earNo z e m (x .alive)) }
+abbrev pub heardNo : Sizes → Event → Message → Bool → ℕ
+heardNo z e m alive = if eqb (e .code) 2 then deliveredNo z e m alive else partyNo (ltb (e .b) (z .learners)) alive
 
--- 2 for an event that is none of a learner's
-abbrev pub heardIn : Sizes → Event → Message → Ear → Listened
-heardIn z e m x = if takes 3 z e m then listenOf z e m x else record { ear = x; frees = false; answer = Refused 2 }
+unfoldable pub listenOf : Sizes → Event → Message → Ear → Listened
+listenOf z e m x = listened z e m x (earNo z e m (x .alive))
+
+unfoldable pub heardIn : Sizes → Event → Message → Ear → Listened
+heardIn z e m x = listened z e m x (heardNo z e m (x .alive))

@@ -8,7 +8,7 @@ ghost use Rattle.model.specs.Events.{codeOf, deliver};
 ghost use Rattle.model.specs.declared.Answer.the-variants.{Ok};
 ghost use Rattle.decisions.specs.Change.{changeOf};
 ghost use Rattle.decisions.specs.Refusals.{testNo};
-ghost use Rattle.decisions.specs.Arms.{armOfKind, armOfRole, armOf, needOf, decideOf, refusedOf, finishOf, takes, decidedIn, toldBy, toldIn, deliveredNo, earAt, hears, earSays, earNo, listenOf, heardIn, plainAnswer};
+ghost use Rattle.decisions.specs.Arms.{armOfKind, armOfRole, armOf, needOf, decideOf, refusedOf, finishOf, takes, decidedIn, toldBy, toldIn, deliveredNo, earAt, hears, earSays, heardNo, heardIn, plainAnswer};
 use crate::decide::Change;
 use crate::decide::acknowledged_by;
 use crate::decide::alive_no;
@@ -244,30 +244,6 @@ fn told_by(q: Proposer, m: Message) -> Proposer
     }
 }
 
-// A proposer that is told asks for no room.
-fn by_told(z: Sizes, e: Event, m: Message, q: Proposer) -> Decision
-    requires { ⌜ T (eqb (armOf e m) 4) ⌝ }
-    ensures { λ r. ⌜ r ≡ finishOf (decideOf z e m q freshAcceptor freshLearner) 0 q freshAcceptor ⌝ }
-{
-    let no = delivered_no(z, e, m, q.alive);
-    let c = Acceptor::fresh();
-    if no == 0 {
-        let told = told_by(q, m);
-        let change = freed_of(told, c);
-        return Decision {
-            no,
-            need: 0,
-            change,
-        };
-    }
-    let change = unchanged_of(q, c);
-    Decision {
-        no,
-        need: 0,
-        change,
-    }
-}
-
 // A learner hears the message.
 fn hear_it(z: Sizes, m: Message, mut x: Ear) -> Listened
     ensures { λ r. ⌜ r ≡ record { ear = earAt z m x deliver; frees = true; answer = earSays z m x deliver } ⌝ }
@@ -325,9 +301,8 @@ fn heard_by(z: Sizes, e: Event, m: Message, x: Ear) -> Listened
     }
 }
 
-fn ear_no(z: Sizes, e: Event, m: Message, alive: bool) -> u8
-    requires { ⌜ T (eqb (armOf e m) 3) ⌝ }
-    ensures { λ r. ⌜ r ≡ earNo z e m alive ⌝ }
+fn heard_no(z: Sizes, e: Event, m: Message, alive: bool) -> u8
+    ensures { λ r. ⌜ r ≡ heardNo z e m alive ⌝ }
 {
     if e.code == 2 {
         return delivered_no(z, e, m, alive);
@@ -335,23 +310,7 @@ fn ear_no(z: Sizes, e: Event, m: Message, alive: bool) -> u8
     party_no(e.b < z.learners as u64, alive)
 }
 
-// What an event leaves of a learner, by the one place that it is about.
-fn by_learner(z: Sizes, e: Event, m: Message, x: Ear) -> Listened
-    requires { ⌜ T (eqb (armOf e m) 3) ⌝ }
-    ensures { λ r. ⌜ r ≡ listenOf z e m x ⌝ }
-{
-    let no = ear_no(z, e, m, x.alive);
-    if no == 0 {
-        return heard_by(z, e, m, x);
-    }
-    Listened {
-        ear: x,
-        frees: false,
-        answer: Answer::Refused(no),
-    }
-}
-
-// ---- the arms: each takes its own events, where the sizes are in range, and refuses the others with 2
+// ---- the arms: each takes its own events, where the sizes are in range, and refuses the others with 2; a proposer that is told and a learner have no others
 
 fn takes(n: u8, z: Sizes, e: Event, m: Message) -> bool
     ensures { λ r. ⌜ r ≡ takes n z e m ⌝ }
@@ -400,27 +359,41 @@ pub fn decide_table(z: Sizes, e: Event, m: Message) -> Decision
     not_taken(Proposer::fresh(), Acceptor::fresh())
 }
 
-// A proposer that is told asks for no room.
+// What a Deliver leaves of a proposer that is told, which asks for no room.
 pub fn tell(z: Sizes, e: Event, m: Message, q: Proposer) -> Decision
     ensures { λ r. ⌜ r ≡ toldIn z e m q ⌝ }
 {
-    if takes(4, z, e, m) {
-        return by_told(z, e, m, q);
+    let no = delivered_no(z, e, m, q.alive);
+    let c = Acceptor::fresh();
+    if no == 0 {
+        let told = told_by(q, m);
+        let change = freed_of(told, c);
+        return Decision {
+            no,
+            need: 0,
+            change,
+        };
     }
-    not_taken(q, Acceptor::fresh())
+    let change = unchanged_of(q, c);
+    Decision {
+        no,
+        need: 0,
+        change,
+    }
 }
 
-// What an event leaves of a learner, by the one place that it is about.
+// What a Deliver or a Crash leaves of a learner, by the one place that it is about.
 pub fn listen(z: Sizes, e: Event, m: Message, x: Ear) -> Listened
     ensures { λ r. ⌜ r ≡ heardIn z e m x ⌝ }
 {
-    if takes(3, z, e, m) {
-        return by_learner(z, e, m, x);
+    let no = heard_no(z, e, m, x.alive);
+    if no == 0 {
+        return heard_by(z, e, m, x);
     }
     Listened {
         ear: x,
         frees: false,
-        answer: Answer::Refused(2),
+        answer: Answer::Refused(no),
     }
 }
 

@@ -1,20 +1,24 @@
-use mathlib.Core.Path.{sym, _∙_}
-use Rattle.decisions.proofs.Deciding.{takes-own}
+use mathlib.Core.Path.{_≡_, sym, _∙_, subst}
+use Prim.Native.Nat.{ℕ}
+use borrow.Author.Tests.{eq-eqb, ne-eqb}
+use Rattle.decisions.specs.Arms.{heardIn}
 use borrow.Author.Needs.{needs}
 use Rattle.decisions.proofs.arms.listen.Statement.{statement}
 use Rattle.decisions.proofs.arms.listen.Tie as tie
 
-takes-requires : tie.Need-takes-requires
-takes-requires c κs = search needs
+heard-no-requires : tie.Need-heard-no-requires
+heard-no-requires c κs = search needs
 
-by-learner-requires : tie.Need-by-learner-requires
-by-learner-requires c κs = takes-own 3 (c .before .before .args .z) (c .before .before .args .e) (c .before .before .args .m) (sym (c .before .takes .ensures) ∙ c .if1 .taken) .1
+heard-by-requires : tie.Need-heard-by-requires
+heard-by-requires c κs = search needs
 
 returns : tie.Need-returns
-returns c = simp (sym (c .before .before .takes .ensures) ∙ c .before .if1 .taken) (c .by-learner .ensures)
+unfolding heardIn
+returns c = simp (eq-eqb _ _ (sym (c .before .before .heard-no .ensures) ∙ c .before .if1 .taken)) (c .heard-by .ensures)
 
 returns-2 : tie.Need-returns-2
-returns-2 c = simp (sym (c .before .takes .ensures) ∙ c .if1 .left)
+unfolding heardIn
+returns-2 c = simp (ne-eqb _ _ (subst (λ (n : ℕ). n ≡ 0 → ⊥) (c .before .heard-no .ensures) (c .if1 .left)), c .before .heard-no .ensures)
 
 pub listen-spec : {M : Type 1} → statement M
-listen-spec = tie.close (tie.spec takes-requires by-learner-requires returns returns-2)
+listen-spec = tie.close (tie.spec heard-no-requires heard-by-requires returns returns-2)

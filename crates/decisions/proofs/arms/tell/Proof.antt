@@ -1,26 +1,34 @@
-use mathlib.Core.Path.{sym, _∙_}
-use Rattle.decisions.proofs.Deciding.{takes-own}
+use Rattle.decisions.proofs.Deciding.{told-done, told-refused}
 use borrow.Author.Needs.{needs}
 use Rattle.decisions.proofs.arms.tell.Statement.{statement}
 use Rattle.decisions.proofs.arms.tell.Tie as tie
 
-takes-requires : tie.Need-takes-requires
-takes-requires c κs = search needs
-
-by-told-requires : tie.Need-by-told-requires
-by-told-requires c κs = takes-own 4 (c .before .before .args .z) (c .before .before .args .e) (c .before .before .args .m) (sym (c .before .takes .ensures) ∙ c .if1 .taken) .1
-
-returns : tie.Need-returns
-returns c = simp (sym (c .before .before .takes .ensures) ∙ c .before .if1 .taken) (c .by-told .ensures)
+delivered-no-requires : tie.Need-delivered-no-requires
+delivered-no-requires c κs = search needs
 
 fresh-requires : tie.Need-fresh-requires
 fresh-requires c κs = search needs
 
-not-taken-requires : tie.Need-not-taken-requires
-not-taken-requires c κs = search needs
+told-by-requires : tie.Need-told-by-requires
+told-by-requires c κs = search needs
+
+freed-of-requires : tie.Need-freed-of-requires
+freed-of-requires c κs = search needs
+
+unchanged-of-requires : tie.Need-unchanged-of-requires
+unchanged-of-requires c κs = search needs
+
+returns : tie.Need-returns
+returns c =
+    let d = c .before .before .before .before in
+    let a = d .before .args in
+    simp (c .freed-of .ensures, c .before .told-by .ensures, c .before .before .before .fresh .ensures) (told-done (a .z) (a .e) (a .m) (a .q) _ (d .delivered-no .ensures) (c .before .before .if1 .taken))
 
 returns-2 : tie.Need-returns-2
-returns-2 c = simp (sym (c .before .before .before .takes .ensures) ∙ c .before .before .if1 .left, c .not-taken .ensures, c .before .fresh .ensures)
+returns-2 c =
+    let d = c .before .before .before in
+    let a = d .before .args in
+    simp (c .unchanged-of .ensures, c .before .before .fresh .ensures) (told-refused (a .z) (a .e) (a .m) (a .q) _ (d .delivered-no .ensures) (c .before .if1 .left))
 
 pub tell-spec : {M : Type 1} → statement M
-tell-spec = tie.close (tie.spec takes-requires by-told-requires returns fresh-requires not-taken-requires returns-2)
+tell-spec = tie.close (tie.spec delivered-no-requires fresh-requires told-by-requires freed-of-requires returns unchanged-of-requires returns-2)

@@ -383,7 +383,7 @@ module _ {M : Type 1} (𝓤 : URA M) (H : Heap 𝓤) (A : Atoms 𝓤) (W : Given
           (load-ear.clauses 𝓤 H A mem run) known-load-ear x (λ ν δ. tt) (λ ν δ. factI 𝓤 _ (emp 𝓤) in-l) (λ ν δ r e′. id⊢ 𝓤 (fact 𝓤 (r ≡ x))) (λ ν δ. (locals ! (12 ∷ 19 ∷ 18 ∷ []) (refl, (refl, (refl, tt))))) (λ g10.
           land-in ! 14 refl (typedEa x g10) $
           calls-value ! fm (arms-listen.signature .params) Li.the-row (arms-listen.ended .kept) (arms-listen.clauses 𝓤 H A mem run) known-arms-listen (valsSz, (valsEv, (valsMs, (valsEa, tt)))) (makesSz, (makesEv, (makesMs, (makesEa, tt)))) valLi (LL.tells Li.the-type Li′.the-laws)
-          (z, (e, (m, (x, tt)))) (gz, (ge, (gm, (g10, tt)))) tt (id⊢ 𝓤 (emp 𝓤)) y (λ r e′. fact-mono 𝓤 (r ≡ heardIn z e m x) (r ≡ y) (λ said. said ∙ heard-in z e m x (fit .1 .1 .0) (fit .0))) (locals ! (24 ∷ 21 ∷ 19 ∷ 15 ∷ []) (refl, (refl, (refl, (refl, tt))))) (λ g11.
+          (z, (e, (m, (x, tt)))) (gz, (ge, (gm, (g10, tt)))) tt (id⊢ 𝓤 (emp 𝓤)) y (λ r e′. fact-mono 𝓤 (r ≡ heardIn z e m x) (r ≡ y) (λ said. said ∙ heard-in z e m x (fit .0))) (locals ! (24 ∷ 21 ∷ 19 ∷ 15 ∷ []) (refl, (refl, (refl, (refl, tt))))) (λ g11.
           land-in ! 13 refl (typedLi y g11) $
           forget ! 10 refl $
           forget ! 9 refl $

@@ -363,7 +363,7 @@ module _ {M : Type 1} (𝓤 : URA M) (H : Heap 𝓤) (A : Atoms 𝓤) (W : Given
           (load-proposer.clauses 𝓤 H A mem run) known-load-proposer q (λ ν δ. tt) (λ ν δ. factI 𝓤 _ (emp 𝓤) in-p) (λ ν δ r e′. id⊢ 𝓤 (fact 𝓤 (r ≡ q))) (λ ν δ. (locals ! (12 ∷ 18 ∷ []) (refl, (refl, tt)))) (λ g9.
           land-in ! 14 refl (typedPr q g9) $
           calls-value ! fm (arms-tell.signature .params) Dn.the-row (arms-tell.ended .kept) (arms-tell.clauses 𝓤 H A mem run) known-arms-tell (valsSz, (valsEv, (valsMs, (valsPr, tt)))) (makesSz, (makesEv, (makesMs, (makesPr, tt)))) valDn (LL.tells Dn.the-type Dn′.the-laws)
-          (z, (e, (m, (q, tt)))) (gz, (ge, (gm, (g9, tt)))) tt (id⊢ 𝓤 (emp 𝓤)) f (λ r e′. fact-mono 𝓤 (r ≡ toldIn z e m q) (r ≡ f) (λ said. said ∙ told-in z e m q (fit .1 .1 .0) (fit .0))) (locals ! (23 ∷ 20 ∷ 18 ∷ 15 ∷ []) (refl, (refl, (refl, (refl, tt))))) (λ g10.
+          (z, (e, (m, (q, tt)))) (gz, (ge, (gm, (g9, tt)))) tt (id⊢ 𝓤 (emp 𝓤)) f (λ r e′. fact-mono 𝓤 (r ≡ toldIn z e m q) (r ≡ f) (λ said. said ∙ told-in z e m q (fit .0))) (locals ! (23 ∷ 20 ∷ 18 ∷ 15 ∷ []) (refl, (refl, (refl, (refl, tt))))) (λ g10.
           land-in ! 13 refl (typedDn f g10) $
           forget ! 10 refl $
           forget ! 9 refl $

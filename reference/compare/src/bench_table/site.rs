@@ -36,16 +36,18 @@ fn second_clock(dock: u32, scan: u32, dock_time: u64, time: &mut u64) -> u8 {
     number_of(second::clock(dock, scan, dock_time, time))
 }
 
+/// The sum of what a clock rule gives. Each call is made directly, since the rule takes few nanoseconds.
+fn times(call: impl Fn(u32, u32, u64, &mut u64) -> u8) -> u64 {
+    let mut sum: u64 = 0;
+    let mut time = 0;
+    for tick in 0..CALLS as u32 {
+        let answer = call(tick, tick.wrapping_mul(0x9e37_79b9), 1 << 40, &mut time);
+        sum = sum.wrapping_add(time + u64::from(answer));
+    }
+    sum
+}
+
 fn clock() -> (String, Measured) {
-    let times = |call: fn(u32, u32, u64, &mut u64) -> u8| {
-        let mut sum: u64 = 0;
-        let mut time = 0;
-        for tick in 0..CALLS as u32 {
-            let answer = call(tick, tick.wrapping_mul(0x9e37_79b9), 1 << 40, &mut time);
-            sum = sum.wrapping_add(time + u64::from(answer));
-        }
-        sum
-    };
     Measured::named("C, clock", || times(site::clock), || times(second_clock))
 }
 

@@ -310,7 +310,7 @@ fn heard_no(z: Sizes, e: Event, m: Message, alive: bool) -> u8
     party_no(e.b < z.learners as u64, alive)
 }
 
-// ---- the arms: each takes its own events, where the sizes are in range, and refuses the others with 2; a proposer that is told and a learner have no others
+// ---- the arms: an acting proposer, an acceptor and the table take their own events, where the sizes are in range, and refuse the others with 2; a proposer that is told does a Deliver, and a learner a Deliver or else a Crash
 
 fn takes(n: u8, z: Sizes, e: Event, m: Message) -> bool
     ensures { λ r. ⌜ r ≡ takes n z e m ⌝ }

@@ -1,4 +1,5 @@
 // The clock rule: the scan time of a handheld that has no calendar, only a 32-bit millisecond tick that wraps.
+#![tactic(auto)]
 ghost use Rattle.std.specs.Prelude.{◌≡◌};
 ghost use Rattle.clock.specs.Clock.{clock_rule_no, clock_rule, clock_no};
 
@@ -6,7 +7,7 @@ ghost use Rattle.clock.specs.Clock.{clock_rule_no, clock_rule, clock_no};
 const GREATEST_TIME: u64 = 281_474_976_710_655;
 
 // A scan's time, or refusal 9.
-#[derive(Drop)]
+#[derive(Clone, Copy)]
 pub enum ScanTime {
     At(u64),
     Refused,
@@ -19,7 +20,7 @@ pub fn scan_time(dock: u32, scan: u32, time: u64) -> ScanTime
     if GREATEST_TIME < time {
         return ScanTime::Refused;
     }
-    let age = std::num::wrapping_sub_u32(dock, scan) as u64;
+    let age = dock.wrapping_sub(scan) as u64;
     if time < age {
         return ScanTime::Refused;
     }

@@ -20,7 +20,7 @@ use sets::{LearnerId, ProposerId};
 use sizes::Sizes;
 
 // The refusal or 0, how many free slots the event asks for, and what it leaves.
-#[derive(Drop)]
+#[derive(Clone, Copy)]
 pub struct Decision {
     pub no: u8,
     pub need: u8,
@@ -28,7 +28,7 @@ pub struct Decision {
 }
 
 // What a learner has of itself and of one proposer.
-#[derive(Drop)]
+#[derive(Clone, Copy)]
 pub struct Ear {
     pub alive: bool,
     pub learnt: Scans,
@@ -36,7 +36,7 @@ pub struct Ear {
 }
 
 // What an event leaves of it, whether it frees its slot, and what it answers.
-#[derive(Drop)]
+#[derive(Clone, Copy)]
 pub struct Listened {
     pub ear: Ear,
     pub frees: bool,

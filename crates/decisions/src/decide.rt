@@ -13,7 +13,7 @@ use sets::{AcceptorId, ProposerId, ScanId};
 use sizes::Sizes;
 
 // What an event leaves of the records that it found, and what it then sends. `hears`: the learner takes the message. `stops`: the learner crashes.
-#[derive(Drop)]
+#[derive(Clone, Copy)]
 pub struct Change {
     pub proposer: Proposer,
     pub acceptor: Acceptor,

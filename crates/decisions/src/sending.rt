@@ -6,7 +6,7 @@ use model::Message;
 
 // The messages to send: `count` of them, made of one by their shape.
 // Shape 0: the message alone. 1: to everyone from 0. 2: to the others, all but `except`. 3: an acknowledgement to its proposer, then to every learner.
-#[derive(Drop)]
+#[derive(Clone, Copy)]
 pub struct Send {
     pub shape: u8,
     pub count: u8,

@@ -41,14 +41,14 @@ row-run (t ∷ ts) limit bytes at {vs} {next} e =
     rw q (one f.was f.passes (row-run ts limit bytes b.mid b.second))
 
 -- and such a run is a row that is read
-pub run_row : {tests : List Test} {limit : Limit} {bytes : List ℕ} {at : ℕ} {vs : List ℕ} {next : ℕ} → Run limit bytes tests at vs next → row tests limit bytes at ≡ got vs next
+pub run_row : {limit : Limit} {bytes : List ℕ} {tests : List Test} {at : ℕ} {vs : List ℕ} {next : ℕ} → Run limit bytes tests at vs next → row tests limit bytes at ≡ got vs next
 unfolding row prepend
 run_row none = refl
 run_row {limit = limit} {bytes = bytes} (one {test = test} {tests = tests} {at = at} {v = v} {mid = mid} e p r) = row_cons test tests limit bytes at e p ∙ ap (prepend (v ∷ [])) (run_row r)
 
 -- ---- taking and passing over what was read
 
-run-numbers : {tests : List Test} {limit : Limit} {bytes : List ℕ} {at : ℕ} {vs : List ℕ} {next : ℕ} → Run limit bytes tests at vs next → numbers_at (length vs) limit bytes at ≡ vs
+run-numbers : {limit : Limit} {bytes : List ℕ} {tests : List Test} {at : ℕ} {vs : List ℕ} {next : ℕ} → Run limit bytes tests at vs next → numbers_at (length vs) limit bytes at ≡ vs
 unfolding numbers_at then_numbers
 run-numbers none = refl
 run-numbers (one {v = v} e p r) = rw e (ap {B = List ℕ} (λ l. v ∷ l) (run-numbers r))
@@ -180,7 +180,7 @@ pub record RowAt (tests : List Test) (limit : Limit) (s : List ℕ) (at : ℕ) (
   pub tested : row_no (map (as_read limit) tests) vs ≡ 0
   pub stands : Stands s at vs next
 
-run-forms : {tests : List Test} {limit : Limit} {s : List ℕ} {at : ℕ} {vs : List ℕ} {next : ℕ} → Bytes s → Run limit s tests at vs next → RowAt tests limit s at vs next
+run-forms : {limit : Limit} {s : List ℕ} {tests : List Test} {at : ℕ} {vs : List ℕ} {next : ℕ} → Bytes s → Run limit s tests at vs next → RowAt tests limit s at vs next
 unfolding row_no
 run-forms {s = s} {at = at} b none = record { count = refl; tested = refl; stands = stands-none s at }
 run-forms {limit = limit} {s = s} b (one {test = test} {tests = tests} {at = at} {v = v} {mid = mid} {vs = vs} e p r) =

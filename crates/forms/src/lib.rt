@@ -1,4 +1,5 @@
 // Numbers of the coding one after the other, as every written form has them: passed over, taken into lent room, put and written.
+#![tactic(auto)]
 ghost use Rattle.std.specs.Prelude.{◌≡◌, leb, length};
 ghost use Rattle.std.proofs.lemmas.List.Edits.{sets};
 ghost use Rattle.numbers.specs.Coding.{put_end, written_no};
@@ -7,7 +8,7 @@ ghost use Rattle.forms.specs.Forms.{place_of, plain, numbers_at, ended_at, forms
 use numbers::{Limit, Read, Refusal, Written};
 
 // Where reading a piece of a form ends: the place after it, or a refusal.
-#[derive(Drop)]
+#[derive(Clone, Copy)]
 pub enum Place {
     Next(usize),
     Refused(Refusal),

@@ -7,7 +7,7 @@ use sets::scans::Scans;
 use sizes::scans_in_range;
 
 // What an acceptor says to a proposal: that it accepts or rejects it, with the set to send, or the number of a refusal.
-#[derive(Drop)]
+#[derive(Clone, Copy)]
 pub enum Reply {
     Accepted(Scans),
     Rejected(Scans),
@@ -15,7 +15,7 @@ pub enum Reply {
 }
 
 // The record that a proposal leaves, and the reply to it.
-#[derive(Drop)]
+#[derive(Clone, Copy)]
 pub struct Answered {
     pub acceptor: Acceptor,
     pub reply: Reply,

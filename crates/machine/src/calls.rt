@@ -141,7 +141,7 @@ pub fn single_step(
 
 // An answer as the two numbers that a log has of it: 0 for ok, a refusal's number, 256 and the learner, 512 and the proposer; and the set.
 #[repr(C)]
-#[derive(Drop)]
+#[derive(Clone, Copy)]
 pub struct Said {
     pub no: u64,
     pub set: u64,

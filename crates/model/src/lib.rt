@@ -1,4 +1,5 @@
 // The records of a run, and the rules of one party by value. What each event does to a run is defined in specs/.
+#![tactic(auto)]
 pub mod acceptors;
 pub mod learners;
 pub mod messages;
@@ -10,7 +11,7 @@ use sets::scans::Scans;
 use sets::{AcceptorId, LearnerId, ProposerId};
 
 #[repr(C)]
-#[derive(Drop)]
+#[derive(Clone, Copy)]
 pub struct Proposer {
     pub alive: bool,
     pub active: bool,
@@ -24,7 +25,7 @@ pub struct Proposer {
 }
 
 #[repr(C)]
-#[derive(Drop)]
+#[derive(Clone, Copy)]
 pub struct Acceptor {
     pub alive: bool,
     pub accepted: Scans,
@@ -32,7 +33,7 @@ pub struct Acceptor {
 
 // The newest number heard of one proposer, its set and its acceptors.
 #[repr(C)]
-#[derive(Drop)]
+#[derive(Clone, Copy)]
 pub struct Heard {
     pub number: u16,
     pub set: Scans,
@@ -41,7 +42,7 @@ pub struct Heard {
 
 // One place of `heard` for each proposer; those past the run's own are no records.
 #[repr(C)]
-#[derive(Drop)]
+#[derive(Clone, Copy)]
 pub struct Learner {
     pub alive: bool,
     pub learnt: Scans,
@@ -50,7 +51,7 @@ pub struct Learner {
 
 // A slot of the table of messages in flight. Kind 0 free, 1 internal, 2 proposal, 3 acknowledgement to a proposer, 4 rejection, 5 acknowledgement to a learner.
 #[repr(C)]
-#[derive(Drop)]
+#[derive(Clone, Copy)]
 pub struct Message {
     pub kind: u8,
     pub addressee: u8,
@@ -61,7 +62,7 @@ pub struct Message {
 }
 
 #[repr(C)]
-#[derive(Drop)]
+#[derive(Clone, Copy)]
 pub struct Event {
     pub code: u64,
     pub a: u64,
@@ -69,7 +70,7 @@ pub struct Event {
 }
 
 // What an event answers.
-#[derive(Drop)]
+#[derive(Clone, Copy)]
 pub enum Answer {
     Ok,
     Learnt { learner: LearnerId, set: Scans },

@@ -1,30 +1,31 @@
 // The number coding of the written forms: groups of seven bits, low group first, the top bit set while more follow.
+#![tactic(auto)]
 ghost use Rattle.std.specs.Prelude.{◌≡◌, ◌+◌, ◌*◌, ◌≤◌, ◌<◌, ◌^◌, false, ltb, length, drop};
 ghost use Rattle.std.proofs.lemmas.List.Edits.{sets};
 ghost use Rattle.numbers.specs.Coding.{groups_of, most_of, last_group, groups_from, read_number, form, put_end, number_written, after_number, number_written_no, written_no};
 
 // How large a number may be: as a schedule has it, or as a scan table has it.
-#[derive(Drop)]
+#[derive(Clone, Copy)]
 pub enum Limit {
     Schedule,
     Table,
 }
 
 // The number of a refusal.
-#[derive(Drop)]
+#[derive(Clone, Copy)]
 pub struct Refusal {
     pub no: u8,
 }
 
 // What is read: a number and the place after it, or a refusal.
-#[derive(Drop)]
+#[derive(Clone, Copy)]
 pub enum Read {
     Number { value: u64, next: usize },
     Refused(Refusal),
 }
 
 // What writing answers: the place after the written form, or a refusal.
-#[derive(Drop)]
+#[derive(Clone, Copy)]
 pub enum Written {
     Next(usize),
     Refused(Refusal),

@@ -1,4 +1,5 @@
 // The text of a run: what the run printer prints.
+#![tactic(auto)]
 ghost use Rattle.std.specs.Prelude.{◌≡◌, ◌++◌, ◌+◌, ◌*◌, ◌≤◌, eqb, length, true};
 ghost use Rattle.choice.specs.Choice.{if◌then◌else◌};
 ghost use Rattle.numbers.specs.Coding.{written_no};
@@ -109,7 +110,7 @@ fn ok_one(answer: Answer) -> u64
 }
 
 // How many bytes the lines of a run take, and how many of its events are ok.
-#[derive(Drop)]
+#[derive(Clone, Copy)]
 struct Tally {
     length: usize,
     ok: u64,

@@ -110,7 +110,7 @@ table_got bytes {scans} {fields} e = go (read_number Table bytes 0) refl e
     go (read.Number s mid) q h = sized-so s mid q (eqb (size_no s) 0) refl h
 
 -- numbers that were read are one for each test, and pass
-run-passes : {tests : List Test} {limit : Limit} {bytes : List ℕ} {at : ℕ} {vs : List ℕ} {next : ℕ} → Run limit bytes tests at vs next → (length vs ≡ length tests) × (row_no tests vs ≡ 0)
+run-passes : {limit : Limit} {bytes : List ℕ} {tests : List Test} {at : ℕ} {vs : List ℕ} {next : ℕ} → Run limit bytes tests at vs next → (length vs ≡ length tests) × (row_no tests vs ≡ 0)
 unfolding row_no
 run-passes none = (refl, refl)
 run-passes (one {test = test} {tests = tests} {v = v} {vs = vs} e p r) =

@@ -1,5 +1,6 @@
 // The scan table's written form: S, then for each of S scans tag, shelf, device and time.
 // In lent room a scan is four numbers in a row: tag, shelf, device, time.
+#![tactic(auto)]
 ghost use Rattle.std.specs.Prelude.{◌≡◌, ◌%◌, length, get_or};
 ghost use Rattle.numbers.specs.Coding.{limit_no, written_no};
 ghost use Rattle.numbers.specs.declared.Limit.TheVariants.{Table};
@@ -12,7 +13,7 @@ use numbers::{Limit, Read, Refusal, Written};
 use sets::ScanId;
 
 // One scan. Its ranges: tag to 2^32 - 1, shelf to 65,535, device 1 to 255, time to 2^48 - 1.
-#[derive(Drop)]
+#[derive(Clone, Copy)]
 pub struct Scan {
     pub tag: u64,
     pub shelf: u64,
@@ -21,7 +22,7 @@ pub struct Scan {
 }
 
 // What reading a table answers: how many scans it has, or a refusal.
-#[derive(Drop)]
+#[derive(Clone, Copy)]
 pub enum TableRead {
     Scans(usize),
     Refused(Refusal),

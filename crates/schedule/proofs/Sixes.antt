@@ -30,7 +30,7 @@ form-most v = form-in-most 10 v
 
 -- ---- numbers that are not tested
 
-run-count : {tests : List Test} {limit : Limit} {bytes : List ℕ} {at : ℕ} {vs : List ℕ} {next : ℕ} → Run limit bytes tests at vs next → length vs ≡ length tests
+run-count : {limit : Limit} {bytes : List ℕ} {tests : List Test} {at : ℕ} {vs : List ℕ} {next : ℕ} → Run limit bytes tests at vs next → length vs ≡ length tests
 run-count none = refl
 run-count (one e p r) = ap suc (run-count r)
 

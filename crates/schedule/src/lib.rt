@@ -1,5 +1,6 @@
 // The schedule's written form: P, A, L, M, S, E, then for each of E events code, a and b.
 // In lent room an event is three numbers in a row: code, a, b.
+#![tactic(auto)]
 ghost use Rattle.std.specs.Prelude.{◌≡◌, ℕ, ◌<◌, length, get_or};
 ghost use Rattle.numbers.specs.Coding.{written_no};
 ghost use Rattle.forms.specs.Forms.{form_no, room_no, into_room, after_room, forms};
@@ -11,21 +12,21 @@ use numbers::{Limit, Refusal, Written};
 use sizes::Sizes;
 
 // The six numbers that a schedule begins with: the sizes of the run and how many events there are.
-#[derive(Drop)]
+#[derive(Clone, Copy)]
 pub struct Header {
     pub sizes: Sizes,
     pub events: u16,
 }
 
 // What reading a schedule answers: its six numbers, or a refusal.
-#[derive(Drop)]
+#[derive(Clone, Copy)]
 pub enum ScheduleRead {
     Events(Header),
     Refused(Refusal),
 }
 
 // A schedule whose form is right, with the place of its first event; or the refusal.
-#[derive(Drop)]
+#[derive(Clone, Copy)]
 enum Checked {
     Form { header: Header, first: usize },
     Refused(Refusal),

@@ -1,4 +1,5 @@
 // The shelf question: where a crate was seen last, by the scans of its tag in a set.
+#![tactic(auto)]
 ghost use Rattle.std.specs.Prelude.{◌≡◌, ◌*◌, ◌≤◌, length};
 ghost use Rattle.choice.specs.Choice.{if◌then◌else◌};
 ghost use Rattle.scan_table.specs.Table.{read_table};
@@ -13,21 +14,21 @@ use sets::scans::{MOST_SCANS, Scans};
 const MOST_NUMBERS: usize = MOST_SCANS as usize * 4;
 
 // A scan of a table and its number.
-#[derive(Drop)]
+#[derive(Clone, Copy)]
 pub struct Seen {
     pub number: ScanId,
     pub scan: Scan,
 }
 
 // The scan that is shown so far, if any.
-#[derive(Drop)]
+#[derive(Clone, Copy)]
 pub enum Newest {
     Nothing,
     Found(Seen),
 }
 
 // The answer: no scan of the tag in the set; the scan to show; or a refusal.
-#[derive(Drop)]
+#[derive(Clone, Copy)]
 pub enum Shelf {
     Nowhere,
     Shown { scan: ScanId, shelf: u64, time: u64 },

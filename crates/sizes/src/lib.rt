@@ -1,4 +1,5 @@
 // The sizes of a run and their ranges.
+#![tactic(auto)]
 ghost use Rattle.std.specs.Prelude.{◌≡◌};
 ghost use Rattle.sizes.specs.Sizes.{between, scans_in_range, sizes_in_range};
 
@@ -8,7 +9,7 @@ use sets::scans::MOST_SCANS;
 
 // How many proposers, acceptors, learners, message slots and scans a run has.
 #[repr(C)]
-#[derive(Drop)]
+#[derive(Clone, Copy)]
 pub struct Sizes {
     pub proposers: u16,
     pub acceptors: u16,

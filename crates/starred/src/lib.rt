@@ -1,1 +1,2 @@
 // No code: document 01's starred examples, proved of the rules.
+#![tactic(auto)]

@@ -1,1 +1,2 @@
 // No code: how tight the promises of the calls are.
+#![tactic(auto)]

@@ -1,0 +1,13 @@
+use Prim.Native.Nat.{◌-◌}
+use native.Mathlib.Omega.{arith}
+use lib.ListN.{length}
+use borrow.Author.Rules.{rules}
+use Rattle.forms.proofs.Putting.{Left, begin, more, last}
+use Rattle.forms.proofs.put_numbers.Given as goal
+
+-- many are left. Assumes nothing.
+abbrev pub invariant-loop-done : goal.invariant-loop-done
+invariant-loop-done l = Left l.values l.initial.buffer l.at l.buffer l.next l.done
+
+abbrev pub decreases-loop-done : goal.decreases-loop-done
+decreases-loop-done l = length l.values - l.done

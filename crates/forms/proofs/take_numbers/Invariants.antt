@@ -1,0 +1,17 @@
+use mathlib.Core.Path.{◌≡◌, refl, sym, ap, ◌∙◌}
+use Prim.Native.Nat.{◌≤◌, ◌-◌}
+use native.Mathlib.Omega.{arith}
+use native.Mathlib.Nat.{sub-zero}
+use lib.ListN.{length, length-set}
+use lib.Seq.{sets}
+use borrow.Author.Rules.{rules}
+use Rattle.forms.specs.Forms.{numbers_at}
+use Rattle.forms.proofs.Steps.{stored-number, taken_refused, taken_none, sets-out}
+use Rattle.forms.proofs.take_numbers.Given as goal
+
+-- measure is how many are left. Assumes nothing.
+abbrev pub invariant-loop-i : goal.invariant-loop-i
+invariant-loop-i l = (l.i ≤ l.count) × (length l.room ≡ length l.initial.room) × (sets l.initial.room 0 (numbers_at l.count l.limit l.bytes l.at) ≡ sets l.room l.i (numbers_at (l.count - l.i) l.limit l.bytes l.next))
+
+abbrev pub decreases-loop-i : goal.decreases-loop-i
+decreases-loop-i l = l.count - l.i

@@ -1,0 +1,17 @@
+use mathlib.Core.Path.{◌≡◌, sym, ◌∙◌}
+use Prim.Native.Nat.{◌≤◌, ◌-◌}
+use native.Mathlib.Omega.{arith}
+use native.Mathlib.Nat.{sub-zero}
+use Rattle.numbers.specs.declared.Limit.TheVariants.{Table}
+use Rattle.forms.specs.Forms.{place_of, rows}
+use Rattle.scan_table.specs.Table.{scan_tests}
+use Rattle.scan_table.proofs.Checking.{rows_next, rows-refused, rows_none}
+use borrow.Author.Rules.{rules}
+use Rattle.scan_table.proofs.check_scans.Given as goal
+
+-- measure is how many are left. Assumes nothing.
+abbrev pub invariant-loop-i : goal.invariant-loop-i
+invariant-loop-i l = (l.i ≤ l.scans) × (place_of (rows l.scans scan_tests Table l.bytes l.at) ≡ place_of (rows (l.scans - l.i) scan_tests Table l.bytes l.next))
+
+abbrev pub decreases-loop-i : goal.decreases-loop-i
+decreases-loop-i l = l.scans - l.i

@@ -1,0 +1,17 @@
+use mathlib.Core.Path.{◌≡◌, refl, sym, ◌∙◌}
+use Prim.Native.Nat.{ℕ, ◌+◌, ◌-◌, ◌%◌}
+use native.Mathlib.Omega.{arith}
+use native.Mathlib.Nat.{sub-zero}
+use lib.ListN.{length}
+use Rattle.forms.specs.Forms.{rows_no}
+use Rattle.scan_table.specs.Table.{scans_in, tests_of}
+use Rattle.scan_table.proofs.Testing.{four-tests, rest_no, scans-next, scans-refused, scans-none}
+use borrow.Author.Rules.{rules}
+use Rattle.scan_table.proofs.scans_no.Given as goal
+
+-- many numbers are left. Assumes nothing.
+abbrev pub invariant-loop-at : goal.invariant-loop-at
+invariant-loop-at l = (l.at % 4 ≡ 0) × (rows_no (scans_in l.fields) (tests_of l.written) l.fields ≡ rest_no (tests_of l.written) l.fields l.at)
+
+abbrev pub decreases-loop-at : goal.decreases-loop-at
+decreases-loop-at l = length l.fields - l.at

@@ -1,0 +1,8 @@
+use mathlib.Core.Path.{sym}
+use borrow.Author.Rules.{rules}
+use Rattle.sets.specs.Acceptors.{majority, is_majority}
+use Rattle.sets.proofs.acceptors.Acceptors.is_majority_of.Goals as goal
+
+pub returns : goal.returns
+unfolding majority is_majority
+returns c = simp (sym c.size.ensures)

@@ -1,0 +1,11 @@
+use native.Mathlib.Omega.{arith}
+use borrow.Author.Rules.{rules}
+use Rattle.text.proofs.Finding.{Counted, begin-count, count-few, count-more, count-last}
+use Rattle.text.proofs.decimal_width.Given as goal
+
+-- measure is the rest. Assumes nothing.
+abbrev pub invariant-loop-rest : goal.invariant-loop-rest
+invariant-loop-rest l = Counted l.value l.width l.rest
+
+abbrev pub decreases-loop-rest : goal.decreases-loop-rest
+decreases-loop-rest l = l.rest

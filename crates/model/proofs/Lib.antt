@@ -1,6 +1,5 @@
 -- What the proofs of several functions cite, what holds of every run, and document 01's example run.
 pub mod Enabled
-pub mod Places
 pub mod Everywhere
 pub mod Lists
 pub mod RuleLaws

@@ -1,0 +1,7 @@
+use borrow.Author.Rules.{rules}
+use Rattle.model.specs.Rules.{accepts}
+use Rattle.model.proofs.Acceptor.accepts.Goals as goal
+
+pub returns : goal.returns
+unfolding accepts
+returns c = c.is_contained_in.ensures

@@ -1,0 +1,49 @@
+use mathlib.Core.Path.{◌≡◌, sym, ap, ◌∙◌}
+use Prim.Native.Nat.{◌-◌}
+use native.Mathlib.Omega.{arith}
+use lib.ListN.{take, drop, length-take}
+use lib.Seq.{get_or-take}
+use borrow.Author.Rules.{rules}
+use borrow.Author.Tests.{not-true, not-false}
+use Rattle.sets.specs.Acceptors.{none}
+use Rattle.sets.specs.Scans.{empty}
+use Rattle.model.specs.Ranges.{all, heard_in_range, learner_in_range}
+use Rattle.model.specs.Records.{unheard}
+use Rattle.model.proofs.Everywhere.{past, passes, fails}
+use Rattle.model.proofs.Learner.in_range.Goals as goal
+
+pub returns-then-not-fits : goal.returns-then-not-fits
+unfolding learner_in_range
+returns-then-not-fits c = simp (sym c.fits.ensures ∙ c.if-not-fits.true)
+
+pub loop-i-init : goal.loop-i-init
+unfolding learner_in_range
+loop-i-init c = simp (sym c.fits.ensures ∙ c.if-not-fits.false)
+
+pub returns-then-proposers-i : goal.returns-then-proposers-i
+returns-then-proposers-i c = let a = c.args in
+    let l = c.loop-i in
+    let own = take a.z.proposers a.self.heard in
+    sym (l.invariant ∙ past (heard_in_range a.z) own l.i (simp length-take (omega arith)))
+
+pub returns-then-not-in_range : goal.returns-then-not-in_range
+unfolding empty none
+returns-then-not-in_range c = let a = c.args in
+    let l = c.loop-i in
+    let own = take a.z.proposers a.self.heard in
+    let e = ap (heard_in_range a.z) (get_or-take a.z.proposers a.self.heard l.i unheard (omega arith)) ∙ sym c.in_range.ensures ∙ c.if-not-in_range.true in
+    sym (l.invariant ∙ fails (heard_in_range a.z) own l.i unheard (simp length-take (omega arith)) e)
+
+pub loop-i-preserved : goal.loop-i-preserved
+unfolding empty none
+loop-i-preserved c = let a = c.args in
+    let l = c.loop-i in
+    let own = take a.z.proposers a.self.heard in
+    let e = ap (heard_in_range a.z) (get_or-take a.z.proposers a.self.heard l.i unheard (omega arith)) ∙ sym c.in_range.ensures ∙ c.if-not-in_range.false in
+    l.invariant ∙ passes (heard_in_range a.z) own l.i unheard (simp length-take (omega arith)) e
+
+pub returns : goal.returns
+returns c = let a = c.args in
+    let l = c.loop-i in
+    let own = take a.z.proposers a.self.heard in
+    sym (l.invariant ∙ past (heard_in_range a.z) own l.i (simp length-take (omega arith)))

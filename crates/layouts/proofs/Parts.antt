@@ -20,11 +20,11 @@ use Rattle.layouts.proofs.Words.{length-word}
 
 -- ---- a test by a function, in what its result is
 
-pub passed : {r t : Bool} → r ≡ t → not r ≡ false → t ≡ true
-passed {r} e h = sym e ∙ not-false r h
+pub passed : {r t : Bool} → r ≡ t → r ≡ true → t ≡ true
+passed e h = sym e ∙ h
 
-pub failed : {r t : Bool} → r ≡ t → not r ≡ true → t ≡ false
-failed {r} e h = sym e ∙ not-true r h
+pub failed : {r t : Bool} → r ≡ t → r ≡ false → t ≡ false
+failed e h = sym e ∙ h
 
 -- ---- bytes
 

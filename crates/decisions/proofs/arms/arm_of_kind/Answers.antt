@@ -1,0 +1,23 @@
+use mathlib.Core.Path.{refl, sym}
+use Rattle.decisions.specs.Arms.{arm_of_kind}
+use Rattle.decisions.proofs.Dispatch.{other-kind}
+use borrow.Author.Rules.{rules}
+use Rattle.decisions.proofs.arms.arm_of_kind.Goals as goal
+
+pub returns-in-1 : goal.returns-in-1
+returns-in-1 c = simp c.in-1.is
+
+pub returns-in-2 : goal.returns-in-2
+returns-in-2 c = simp c.in-2.is
+
+pub returns-in-3 : goal.returns-in-3
+returns-in-3 c = simp c.in-3.is
+
+pub returns-in-4 : goal.returns-in-4
+returns-in-4 c = simp c.in-4.is
+
+pub returns-in-5 : goal.returns-in-5
+returns-in-5 c = simp c.in-5.is
+
+pub returns-in_default : goal.returns-in_default
+returns-in_default c = sym (other-kind arm_of_kind _ refl c.in_default.in_default-own.rest)

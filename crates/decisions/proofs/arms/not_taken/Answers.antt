@@ -1,0 +1,5 @@
+use borrow.Author.Rules.{rules}
+use Rattle.decisions.proofs.arms.not_taken.Goals as goal
+
+pub returns : goal.returns
+returns c = simp c.unchanged_of-change.ensures

@@ -1,0 +1,5 @@
+use borrow.Author.Rules.{rules}
+use Rattle.decisions.proofs.decide.receive_no.Goals as goal
+
+pub returns : goal.returns
+returns c = simp (c.party_no.ensures, c.both-exist.ensures)

@@ -1,0 +1,5 @@
+use borrow.Author.Rules.{rules}
+use Rattle.layouts.proofs.fields.flag_at.Goals as goal
+
+pub returns : goal.returns
+returns c = simp c.byte_at.ensures

@@ -1,0 +1,5 @@
+use borrow.Author.Rules.{rules}
+use Rattle.layouts.proofs.fields.is_answer.Goals as goal
+
+pub returns : goal.returns
+returns c = cc

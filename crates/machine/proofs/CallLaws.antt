@@ -20,7 +20,7 @@ use Rattle.model.specs.declared.Message.{Message}
 use Rattle.choice.proofs.Tests.{and_l, and_r}
 use Rattle.machine.specs.Calls.{lent, fresh_no, after_fresh}
 use Rattle.machine.specs.Counting.{lengths_are, turns_of, sized_no}
-use Rattle.machine.proofs.Filling.{filled}
+use Rattle.machine.proofs.Filled.{filled}
 
 -- ---- one list of n records, by the test b
 

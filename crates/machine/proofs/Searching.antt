@@ -12,7 +12,7 @@ use Rattle.model.specs.Table.{is_free, free_slots}
 use Rattle.model.specs.declared.Message.{Message}
 use Rattle.decisions.specs.Sending.{is_taken, lacking}
 use Rattle.machine.specs.Slots.{left_after, searching, lowest, lowest_from, FreeFrom}
-use Rattle.machine.proofs.WalkedLoops.{drop-next}
+use Rattle.machine.proofs.LeftOver.{drop-next}
 
 -- ---- the search for room
 
@@ -38,8 +38,8 @@ after_first : (m : Message) (t : List Message) (k : ℕ) → lacking (left_after
 unfolding free_slots
 after_first m t k = after-by (is_free m) k (free_slots t)
 
-pub room-on : (l : List Message) (i k : ℕ) → i < length l → lacking (left_after (get_or l i free_slot) k) (drop (i + 1) l) ≡ lacking k (drop i l)
-room-on l i k h = after_first (get_or l i free_slot) (drop (i + 1) l) k ∙ ap (lacking k) (sym (drop-next l i free_slot h))
+pub room-on : (l : List Message) (i k : ℕ) (d : Message) → i < length l → lacking (left_after (get_or l i d) k) (drop (i + 1) l) ≡ lacking k (drop i l)
+room-on l i k d h = after_first (get_or l i d) (drop (i + 1) l) k ∙ ap (lacking k) (sym (drop-next l i d h))
 
 none_free : (k : ℕ) → lacking k [] ≡ k
 unfolding free_slots

@@ -56,6 +56,15 @@ fn held_in(p: ProposerId, x: Ear, there: Heard) -> Heard
     there
 }
 
+// One of the eight places of a learner.
+fn heard_at(places: &[Heard; 8], at: usize) -> Heard
+    requires { at < 8 }
+    ensures eight { length places.now ≡ 8 }
+    ensures there { result ≡ get_or places.now at unheard }
+{
+    places[at]
+}
+
 // What a learner has of itself and of one proposer: the other places are not read.
 fn ear_by(t: &[Learner], i: usize, p: ProposerId) -> Ear
     requires { i < length t.now }
@@ -64,7 +73,7 @@ fn ear_by(t: &[Learner], i: usize, p: ProposerId) -> Ear
     let at = place_of(p);
     let alive = t[i].alive;
     let learnt = t[i].learnt;
-    let there = t[i].heard[at];
+    let there = heard_at(&t[i].heard, at);
     ear_of(p, alive, learnt, there)
 }
 
@@ -73,7 +82,7 @@ fn put_ear(t: &mut [Learner], i: usize, p: ProposerId, x: Ear)
     ensures { t.new ≡ set t.old i (put_ear (get_or t.old i fresh_learner) p.0 x) }
 {
     let at = place_of(p);
-    let there = t[i].heard[at];
+    let there = heard_at(&t[i].heard, at);
     let h = held_in(p, x, there);
     t[i].alive = x.alive;
     t[i].learnt = x.learnt;

@@ -1,0 +1,5 @@
+use borrow.Author.Rules.{rules}
+use Rattle.machine.proofs.calls.said_of.Goals as goal
+
+pub returns : goal.returns
+returns c = simp (c.said_set-set.ensures, c.said_no-no.ensures)

@@ -1,0 +1,5 @@
+use borrow.Author.Rules.{rules}
+use Rattle.machine.proofs.calls.sized.Goals as goal
+
+pub returns : goal.returns
+returns c = cc

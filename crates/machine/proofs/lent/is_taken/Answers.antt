@@ -1,0 +1,5 @@
+use borrow.Author.Rules.{rules}
+use Rattle.machine.proofs.lent.is_taken.Goals as goal
+
+pub returns : goal.returns
+returns c = simp c.is_free.ensures

@@ -1,0 +1,10 @@
+use Rattle.std.proofs.Common.{◌≡◌, ◌-◌, ◌&&◌, length, drop}
+use Rattle.model.specs.Ranges.{all, learner_in_range}
+use Rattle.machine.proofs.lent.learners_in_range.Given as goal
+
+-- what was found and what is left come to the answer
+abbrev pub invariant-loop-i : goal.invariant-loop-i
+invariant-loop-i l = (l.sound && all (learner_in_range l.z) (drop l.i l.t)) ≡ all (learner_in_range l.z) l.t
+
+abbrev pub decreases-loop-i : goal.decreases-loop-i
+decreases-loop-i l = length l.t - l.i

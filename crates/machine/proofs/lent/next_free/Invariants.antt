@@ -1,0 +1,11 @@
+use Rattle.std.proofs.Common.{◌≡◌, ◌-◌, length, get_or}
+use Rattle.model.specs.Records.{free_slot}
+use Rattle.machine.specs.Slots.{lowest_from}
+use Rattle.machine.proofs.lent.next_free.Given as goal
+
+-- the lowest free slot lies from `at` on, and m is the slot there
+abbrev pub invariant-loop-at : goal.invariant-loop-at
+invariant-loop-at l = (lowest_from l.at l.t ≡ lowest_from l.from l.t) × (l.m ≡ get_or l.t l.at free_slot)
+
+abbrev pub decreases-loop-at : goal.decreases-loop-at
+decreases-loop-at l = length l.t - l.at

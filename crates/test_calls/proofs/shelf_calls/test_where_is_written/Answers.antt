@@ -1,0 +1,12 @@
+use mathlib.Core.Path.{ap, ◌∙◌}
+use Rattle.sets.specs.declared.scans.Scans.{Scans}
+use Rattle.scan_table.specs.Table.{read_table}
+use Rattle.shelf.specs.Shelf.{where_is_written, where_is_written_no}
+use borrow.Author.Rules.{rules}
+use Rattle.test_calls.proofs.shelf_calls.test_where_is_written.Goals as goal
+
+pub returns : goal.returns
+returns c = let a = c.args in
+    let e = c.where_is_written-answer.ensures in
+    let made = c.of_first_word.ensures in
+    (c.told.ensures.0 ∙ e.1 ∙ ap (λ (v : Scans). where_is_written_no (read_table a.bytes.now) v a.tag) made, c.told.ensures.1 ∙ simp (e.0 ∙ ap (λ (v : Scans). where_is_written (read_table a.bytes.now) v a.tag) made))

@@ -1,0 +1,6 @@
+use borrow.Author.Rules.{rules}
+use Rattle.test_calls.proofs.shelf_calls.told.Goals as goal
+
+pub returns-in-Shown : goal.returns-in-Shown
+returns-in-Shown c = let e = c.in-Shown.is in
+    (simp e, simp e)

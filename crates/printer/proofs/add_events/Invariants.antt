@@ -1,0 +1,12 @@
+use Prim.Native.Nat.{◌-◌}
+use native.Mathlib.Omega.{arith}
+use Rattle.printer.proofs.Events.{Printing, begin-print, print-room, print-event, print-all}
+use borrow.Author.Rules.{rules}
+use Rattle.printer.proofs.add_events.Given as goal
+
+-- many events are left. Assumes nothing.
+abbrev pub invariant-loop-k : goal.invariant-loop-k
+invariant-loop-k l = Printing l.scans l.log l.n l.initial.buffer l.buffer l.next l.k
+
+abbrev pub decreases-loop-k : goal.decreases-loop-k
+decreases-loop-k l = l.n - l.k

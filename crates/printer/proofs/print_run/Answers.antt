@@ -1,0 +1,17 @@
+-- `printer::print_run` meets its contract. Assumes nothing.
+use mathlib.Core.List.{List}
+use Prim.Native.Nat.{ℕ, ◌*◌, ◌≤◌}
+use native.Mathlib.Omega.{arith}
+use lib.ListN.{length, replicate, length-replicate}
+use borrow.Author.Rules.{rules}
+use Rattle.sizes.specs.Events.{most_events}
+use Rattle.machine.specs.Log.{per_answer}
+use Rattle.printer.proofs.Printing.{run-printed}
+use Rattle.printer.proofs.print_run.Goals as goal
+
+pub returns : goal.returns
+returns c = let a = c.args in
+    let w = c.whole_run in
+    let log : List ℕ = replicate (per_answer * most_events) 0 in
+    let room : per_answer * a.header.events ≤ length log = omega (arith, c.requires.1.0, length-replicate {A = ℕ} (per_answer * most_events) 0) in
+    run-printed a.header.sizes a.events.now log a.header.events c.requires.0 c.requires.1.0 c.requires.1.1 room a.buffer.now _ _ _ w.ensures.1 c.print_log.ensures

@@ -12,7 +12,7 @@ FACTS = {"sendsTaken": "SendsTaken"}
 LEMMAS = {"as_read": ["scan_table"], "item_by": ["decisions"], "no_kind": ["model"], "set_line": ["tight"], "told_in": ["decisions", "machine"]}
 
 TOKEN = re.compile(r"[A-Za-z_][A-Za-z0-9_'\-₀-₉]*")
-MIXED = re.compile(r"^[a-z][A-Za-z0-9_'\-₀-₉]*?[a-z0-9][A-Z]")
+MIXED = re.compile(r"^[a-z](?:[A-Z]|[A-Za-z0-9_'\-₀-₉]*?[a-z0-9][A-Z])")
 
 
 def snake(name):

@@ -11,7 +11,7 @@ use Rattle.choice.specs.Tests.{◌unless◌, ◌⨾◌, refusal, ok}
 use Rattle.sets.specs.declared.scans.Scans.{Scans}
 use Rattle.sizes.specs.Sizes.{sizes_in_range}
 use Rattle.sizes.specs.declared.Sizes.{Sizes}
-use Rattle.model.specs.Records.{Kind, free, internal, proposal, acknowledgement, rejection, announcement, no_kind, kind_of, Role, aProposer, an_acceptor, aLearner, no_role, role_of, addressed, fresh_proposer, fresh_acceptor, fresh_learner}
+use Rattle.model.specs.Records.{Kind, free, internal, proposal, acknowledgement, rejection, announcement, no_kind, kind_of, Role, a_proposer, an_acceptor, a_learner, no_role, role_of, addressed, fresh_proposer, fresh_acceptor, fresh_learner}
 use Rattle.model.specs.Rules.{crashed_acceptor, crashed_proposer}
 use Rattle.model.specs.Events.{Code, receive, deliver, drop, duplicate, propose, refine, decide, crash, no_code, code_of, exists}
 use Rattle.model.specs.declared.Proposer.{Proposer}
@@ -52,9 +52,9 @@ decided-in n z e m q c s h = ap (λ (b : Bool). if b then decide_of z e m q c fr
 -- ---- a proposer that is told
 
 no-role : {X : Type 0} (r : Role) → Holds (eqb (arm_of_role r) 4) → X
-no-role aProposer h = absurd h
+no-role a_proposer h = absurd h
 no-role an_acceptor h = absurd h
-no-role aLearner h = absurd h
+no-role a_learner h = absurd h
 no-role no_role h = absurd h
 
 none-by : (y : Bool) (n : ℕ) → n ≡ 0 → (if y then n else 0) ≡ 0
@@ -179,9 +179,9 @@ ear-alive announcement q x y h = refl
 ear-alive no_kind q x y h = absurd h
 
 ear-role : (z : Sizes) (r : Role) (b : ℕ) (q x y : Bool) → Holds (eqb (arm_of_role r) 3) → party_no (ltb b z.learners) y ≡ party_no (exists z r b) (alive_in r q x y)
-ear-role z aProposer b q x y h = absurd h
+ear-role z a_proposer b q x y h = absurd h
 ear-role z an_acceptor b q x y h = absurd h
-ear-role z aLearner b q x y h = refl
+ear-role z a_learner b q x y h = refl
 ear-role z no_role b q x y h = absurd h
 
 -- by the number of the code, of which 2 is Deliver
@@ -240,16 +240,16 @@ answer-kind z m q c announcement h = absurd h
 answer-kind z m q c no_kind h = absurd h
 
 answer-role : (z : Sizes) (r : Role) (b : ℕ) (q x y : Bool) → Holds (eqb (arm_of_role r) 2) → party_no (exists z r b) (alive_in r q x y) ≡ party_no (ltb b z.acceptors) x
-answer-role z aProposer b q x y h = absurd h
+answer-role z a_proposer b q x y h = absurd h
 answer-role z an_acceptor b q x y h = refl
-answer-role z aLearner b q x y h = absurd h
+answer-role z a_learner b q x y h = absurd h
 answer-role z no_role b q x y h = absurd h
 
 answer-stops : (q : Proposer) (c : Acceptor) (r : Role) → Holds (eqb (arm_of_role r) 2) → crashing_of q c r ≡ unchanged q (crashed_acceptor c)
 unfolding crashing_of
-answer-stops q c aProposer h = absurd h
+answer-stops q c a_proposer h = absurd h
 answer-stops q c an_acceptor h = refl
-answer-stops q c aLearner h = absurd h
+answer-stops q c a_learner h = absurd h
 answer-stops q c no_role h = absurd h
 
 module _ (z : Sizes) (a b : ℕ) (m : Message) (q : Proposer) (c : Acceptor) (y : Bool) where
@@ -357,16 +357,16 @@ no-kind-one announcement h = absurd h
 no-kind-one no_kind h = absurd h
 
 acting-role : (z : Sizes) (b : ℕ) (q : Proposer) (x y : Bool) (r : Role) → Holds (eqb (arm_of_role r) 1) → party_no (ltb b z.proposers) q.alive ≡ party_no (exists z r b) (alive_in r q.alive x y)
-acting-role z b q x y aProposer h = refl
+acting-role z b q x y a_proposer h = refl
 acting-role z b q x y an_acceptor h = absurd h
-acting-role z b q x y aLearner h = absurd h
+acting-role z b q x y a_learner h = absurd h
 acting-role z b q x y no_role h = absurd h
 
 acting-stops : (q : Proposer) (c : Acceptor) (r : Role) → Holds (eqb (arm_of_role r) 1) → unchanged (crashed_proposer q) c ≡ crashing_of q c r
 unfolding crashing_of
-acting-stops q c aProposer h = refl
+acting-stops q c a_proposer h = refl
 acting-stops q c an_acceptor h = absurd h
-acting-stops q c aLearner h = absurd h
+acting-stops q c a_learner h = absurd h
 acting-stops q c no_role h = absurd h
 
 pub acting-test : {N : Type 0} (z : Sizes) (a b : ℕ) (m : Message) (q : Proposer) (x y : Bool) (n : ℕ) → ((((N × (n ≡ 1 → ⊥)) × (n ≡ 5 → ⊥)) × (n ≡ 6 → ⊥)) × (n ≡ 7 → ⊥)) → Holds (eqb (arm_at a m (code_of n)) 1) → party_no (ltb b z.proposers) q.alive ≡ test_no z a b m q x y (code_of n)
@@ -412,9 +412,9 @@ table-delivered z e m q x y h p =
     ap (λ (v : Bool). refusal (slot_no z e.a e.b m) ⨾ 5 unless v ⨾ ok) (table-alive (kind_of m.kind) q.alive x y (subst (λ (n : ℕ). Holds (eqb (arm_at e.a m (code_of n)) 0)) p h))
 
 table-role : (z : Sizes) (b : ℕ) (q x y : Bool) (r : Role) → Holds (eqb (arm_of_role r) 0) → 3 ≡ party_no (exists z r b) (alive_in r q x y)
-table-role z b q x y aProposer h = absurd h
+table-role z b q x y a_proposer h = absurd h
 table-role z b q x y an_acceptor h = absurd h
-table-role z b q x y aLearner h = absurd h
+table-role z b q x y a_learner h = absurd h
 table-role z b q x y no_role h = refl
 
 pub table-crashes : (z : Sizes) (e : Event) (m : Message) (q : Proposer) (x y : Bool) → Holds (eqb (arm_of e m) 0) → e.code ≡ 8 → 3 ≡ test_no z e.a e.b m q x y crash
@@ -446,9 +446,9 @@ table-kind z m q c no_kind h = refl
 
 table-stops : (q : Proposer) (c : Acceptor) (r : Role) → Holds (eqb (arm_of_role r) 0) → unchanged q c ≡ crashing_of q c r
 unfolding crashing_of
-table-stops q c aProposer h = absurd h
+table-stops q c a_proposer h = absurd h
 table-stops q c an_acceptor h = absurd h
-table-stops q c aLearner h = absurd h
+table-stops q c a_learner h = absurd h
 table-stops q c no_role h = refl
 
 pub table_stays : {N : Type 0} (z : Sizes) (a b : ℕ) (m : Message) (q : Proposer) (c : Acceptor) (n : ℕ) → ((N × (n ≡ 3 → ⊥)) × (n ≡ 4 → ⊥)) → Holds (eqb (arm_at a m (code_of n)) 0) → unchanged q c ≡ change_of z a b m q c (code_of n)

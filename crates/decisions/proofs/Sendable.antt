@@ -8,7 +8,7 @@ use lib.Dec.{T as Holds, eqb, ltb}
 use Rattle.choice.specs.Choice.{if◌then◌else◌}
 use Rattle.sets.specs.declared.scans.Scans.{Scans}
 use Rattle.sizes.specs.declared.Sizes.{Sizes}
-use Rattle.model.specs.Records.{Kind, free, internal, proposal, acknowledgement, rejection, announcement, no_kind, kind_of, Role, aProposer, an_acceptor, aLearner, no_role, role_of, addressed}
+use Rattle.model.specs.Records.{Kind, free, internal, proposal, acknowledgement, rejection, announcement, no_kind, kind_of, Role, a_proposer, an_acceptor, a_learner, no_role, role_of, addressed}
 use Rattle.model.specs.Rules.{accepts, answering}
 use Rattle.model.specs.Table.{from}
 use Rattle.choice.specs.Tests.{◌unless◌, ◌⨾◌, ok}
@@ -99,9 +99,9 @@ delivery z m q c no_kind h = quiet refl (λ f. h)
 
 crashes : (m : Message) (q : Proposer) (c : Acceptor) (r : Role) → Sendable m (crashing_of q c r)
 unfolding crashing_of
-crashes m q c aProposer = quiet refl (λ f. absurd f)
+crashes m q c a_proposer = quiet refl (λ f. absurd f)
 crashes m q c an_acceptor = quiet refl (λ f. absurd f)
-crashes m q c aLearner = quiet refl (λ f. absurd f)
+crashes m q c a_learner = quiet refl (λ f. absurd f)
 crashes m q c no_role = quiet refl (λ f. absurd f)
 
 pub sendable : (z : Sizes) (a b : ℕ) (m : Message) (q : Proposer) (c : Acceptor) (x y : Bool) (code : Code) → test_no z a b m q x y code ≡ 0 → Sendable m (change_of z a b m q c code)

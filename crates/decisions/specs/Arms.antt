@@ -4,7 +4,7 @@ use Rattle.choice.specs.Choice.{if◌then◌else◌}
 use Rattle.choice.specs.Tests.{◌unless◌, ◌⨾◌, refusal, ok}
 use Rattle.sizes.specs.Sizes.{sizes_in_range}
 use Rattle.sizes.specs.declared.Sizes.{Sizes}
-use Rattle.model.specs.Records.{Kind, free, internal, proposal, acknowledgement, rejection, announcement, no_kind, kind_of, Role, aProposer, an_acceptor, aLearner, no_role, role_of, fresh_proposer, fresh_acceptor, fresh_learner}
+use Rattle.model.specs.Records.{Kind, free, internal, proposal, acknowledgement, rejection, announcement, no_kind, kind_of, Role, a_proposer, an_acceptor, a_learner, no_role, role_of, fresh_proposer, fresh_acceptor, fresh_learner}
 use Rattle.model.specs.Rules.{buffering, hearing, teaches}
 use Rattle.model.specs.Events.{Code, receive, deliver, drop, duplicate, propose, refine, decide, crash, no_code, code_of}
 use Rattle.model.specs.declared.Proposer.{Proposer}
@@ -33,9 +33,9 @@ arm_of_kind announcement = 3
 arm_of_kind no_kind = 0
 
 abbrev pub arm_of_role : Role → ℕ
-arm_of_role aProposer = 1
+arm_of_role a_proposer = 1
 arm_of_role an_acceptor = 2
-arm_of_role aLearner = 3
+arm_of_role a_learner = 3
 arm_of_role no_role = 0
 
 unfoldable pub arm_at : ℕ → Message → Code → ℕ

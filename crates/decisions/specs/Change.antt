@@ -4,7 +4,7 @@ use Rattle.choice.specs.Choice.{if◌then◌else◌}
 use Rattle.sizes.specs.declared.Sizes.{Sizes}
 use Rattle.sets.specs.Scans.{only}
 use Rattle.sets.specs.declared.scans.Scans.{Scans}
-use Rattle.model.specs.Records.{Kind, free, internal, proposal, acknowledgement, rejection, announcement, no_kind, kind_of, Role, aProposer, an_acceptor, aLearner, no_role, role_of, free_slot}
+use Rattle.model.specs.Records.{Kind, free, internal, proposal, acknowledgement, rejection, announcement, no_kind, kind_of, Role, a_proposer, an_acceptor, a_learner, no_role, role_of, free_slot}
 use Rattle.model.specs.Rules.{buffering, is_current, acknowledging, rejecting, after_propose, after_refine, after_decide, crashed_proposer, accepts, answering, crashed_acceptor, learns, listening, crashed_learner}
 use Rattle.model.specs.Table.{Internal, Proposal, Rejection, Announcement}
 use Rattle.model.specs.Events.{Code, receive, deliver, drop, duplicate, propose, refine, decide, crash, no_code}
@@ -79,9 +79,9 @@ delivering_of z m q c announcement = heard_by q c
 delivering_of z m q c no_kind = unchanged q c
 
 unfoldable pub crashing_of : Proposer → Acceptor → Role → Change
-crashing_of q c aProposer = unchanged (crashed_proposer q) c
+crashing_of q c a_proposer = unchanged (crashed_proposer q) c
 crashing_of q c an_acceptor = unchanged q (crashed_acceptor c)
-crashing_of q c aLearner = stopping q c
+crashing_of q c a_learner = stopping q c
 crashing_of q c no_role = unchanged q c
 
 -- a proposer's proposal to everyone of the acceptors

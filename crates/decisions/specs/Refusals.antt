@@ -1,7 +1,7 @@
 -- The first refusal of an event but 1 and 8, of the records that it finds.
 use Rattle.std.specs.Prelude.{Bool, true, not, ◌&&◌, ℕ, eqb, ltb}
 use Rattle.sizes.specs.declared.Sizes.{Sizes}
-use Rattle.model.specs.Records.{Role, aProposer, an_acceptor, aLearner, no_role, role_of, addressed, kind_of}
+use Rattle.model.specs.Records.{Role, a_proposer, an_acceptor, a_learner, no_role, role_of, addressed, kind_of}
 use Rattle.model.specs.Rules.{propose_no, refine_no, decide_no}
 use Rattle.model.specs.Table.{is_free}
 use Rattle.model.specs.Events.{Code, receive, deliver, drop, duplicate, propose, refine, decide, crash, no_code, exists}
@@ -11,9 +11,9 @@ use Rattle.model.specs.declared.Message.{Message}
 
 -- the party of a role has not crashed, by whether the proposer, the acceptor and the learner have not
 abbrev pub alive_in : Role → Bool → Bool → Bool → Bool
-alive_in aProposer q c l = q
+alive_in a_proposer q c l = q
 alive_in an_acceptor q c l = c
-alive_in aLearner q c l = l
+alive_in a_learner q c l = l
 alive_in no_role q c l = true
 
 -- codes 2 to 4: 3, then 4 where the slot is free

@@ -11,7 +11,7 @@ use lib.ListN.{get_or, set}
 use Rattle.choice.specs.Choice.{if◌then◌else◌}
 use Rattle.sets.specs.declared.scans.Scans.{Scans}
 use Rattle.sizes.specs.declared.Sizes.{Sizes}
-use Rattle.model.specs.Records.{Kind, free, internal, proposal, acknowledgement, rejection, announcement, no_kind, kind_of, Role, aProposer, an_acceptor, aLearner, no_role, role_of, fresh_proposer, fresh_acceptor, fresh_learner, heard_of, unheard}
+use Rattle.model.specs.Records.{Kind, free, internal, proposal, acknowledgement, rejection, announcement, no_kind, kind_of, Role, a_proposer, an_acceptor, a_learner, no_role, role_of, fresh_proposer, fresh_acceptor, fresh_learner, heard_of, unheard}
 use Rattle.model.specs.Rules.{hearing, teaches, learns, listening, crashed_learner}
 use Rattle.model.specs.Table.{post, free_slots}
 use Rattle.model.specs.Events.{Code, receive, deliver, drop, duplicate, propose, refine, decide, crash, no_code, code_of}
@@ -55,9 +55,9 @@ ear-kind z m q c no_kind h = absurd h
 
 ear-role : (q : Proposer) (c : Acceptor) (r : Role) → Holds (eqb (arm_of_role r) 3) → crashing_of q c r ≡ stopping q c
 unfolding crashing_of
-ear-role q c aProposer h = absurd h
+ear-role q c a_proposer h = absurd h
 ear-role q c an_acceptor h = absurd h
-ear-role q c aLearner h = refl
+ear-role q c a_learner h = refl
 ear-role q c no_role h = absurd h
 
 ear-change : (z : Sizes) (a b : ℕ) (m : Message) (q : Proposer) (c : Acceptor) (code : Code) → Holds (eqb (arm_at a m code) 3) → change_of z a b m q c code ≡ ear_change q c (hears code)

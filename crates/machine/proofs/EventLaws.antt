@@ -12,7 +12,7 @@ use Rattle.choice.specs.Choice.{if◌then◌else◌}
 use Rattle.sizes.specs.Sizes.{scans_in_range, sizes_in_range}
 use Rattle.sizes.specs.declared.Sizes.{Sizes}
 use Rattle.sets.specs.Scans.{most_scans}
-use Rattle.model.specs.Records.{State, Kind, free, internal, proposal, acknowledgement, rejection, announcement, no_kind, kind_of, Role, aProposer, an_acceptor, aLearner, no_role, role_of, addressed, proposer_of, acceptor_of, learner_of, slot_of, freeing}
+use Rattle.model.specs.Records.{State, Kind, free, internal, proposal, acknowledgement, rejection, announcement, no_kind, kind_of, Role, a_proposer, an_acceptor, a_learner, no_role, role_of, addressed, proposer_of, acceptor_of, learner_of, slot_of, freeing}
 use Rattle.model.specs.Table.{is_free}
 use Rattle.choice.specs.Tests.{◌unless◌, ◌⨾◌, refusal, ok}
 use Rattle.model.specs.Rules.{is_current, propose_no, after_propose, refine_no, after_refine, decide_no, after_decide, accepts, accepting, gaining, answering}
@@ -127,9 +127,9 @@ module _ (z : Sizes) (s : State) (i j k x : ℕ) where
     pub does : test_no z a b m q c.alive l.alive code ≡ 0 → EventDoes code a b
 
   alive-at : (r : Role) (p : ℕ) → At z i j k p → exists z r p ≡ true → is_alive s r p ≡ alive_in r q.alive c.alive l.alive
-  alive-at aProposer p at h = rw (at.proposer (ltb-true p z.proposers h))
+  alive-at a_proposer p at h = rw (at.proposer (ltb-true p z.proposers h))
   alive-at an_acceptor p at h = rw (at.acceptor (ltb-true p z.acceptors h))
-  alive-at aLearner p at h = rw (at.learner (ltb-true p z.learners h))
+  alive-at a_learner p at h = rw (at.learner (ltb-true p z.learners h))
   alive-at no_role p at h = refl
 
   -- ---- Receive
@@ -276,9 +276,9 @@ module _ (z : Sizes) (s : State) (i j k x : ℕ) where
 
   crashed-does : (r : Role) (p : ℕ) → At z i j k p → exists z r p ≡ true → Does (crashing_of q c r) Ok (quiet (crashed s r p))
   unfolding crashing_of crashed learner_after slot_after
-  crashed-does aProposer p at h = rw (← (at.proposer (ltb-true p z.proposers h))) (search (same, items-silence))
+  crashed-does a_proposer p at h = rw (← (at.proposer (ltb-true p z.proposers h))) (search (same, items-silence))
   crashed-does an_acceptor p at h = rw (← (at.acceptor (ltb-true p z.acceptors h))) (search (same, items-silence))
-  crashed-does aLearner p at h = rw (← (at.learner (ltb-true p z.learners h))) (search (same, items-silence))
+  crashed-does a_learner p at h = rw (← (at.learner (ltb-true p z.learners h))) (search (same, items-silence))
   crashed-does no_role p at h = absurd (false≢true h)
 
   crash-law : (a b : ℕ) → At z i j k b → Law crash a b

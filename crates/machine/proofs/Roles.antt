@@ -12,7 +12,7 @@ use lib.ListN.{length, get_or, set}
 use Rattle.choice.specs.Choice.{if◌then◌else◌}
 use Rattle.sets.specs.declared.scans.Scans.{Scans}
 use Rattle.sizes.specs.declared.Sizes.{Sizes}
-use Rattle.model.specs.Records.{Kind, free, internal, proposal, acknowledgement, rejection, announcement, no_kind, kind_of, Role, aProposer, an_acceptor, aLearner, no_role, role_of, addressed, fresh_proposer, fresh_acceptor, fresh_learner, free_slot}
+use Rattle.model.specs.Records.{Kind, free, internal, proposal, acknowledgement, rejection, announcement, no_kind, kind_of, Role, a_proposer, an_acceptor, a_learner, no_role, role_of, addressed, fresh_proposer, fresh_acceptor, fresh_learner, free_slot}
 use Rattle.model.specs.Table.{post}
 use Rattle.model.specs.Rules.{listening, crashed_learner}
 use Rattle.model.specs.Events.{Code, receive, deliver, drop, duplicate, propose, refine, decide, crash, no_code, code_of, exists}
@@ -77,9 +77,9 @@ module _ (z : Sizes) (a b : ℕ) (m : Message) (q q₀ : Proposer) (c c₀ : Acc
 
   p-role : (r : Role) → Holds (takes_proposer (arm_of_role r)) → crashing_of q c r ≡ given (crashing_of q c₀ r).proposer c (crashing_of q c₀ r)
   unfolding crashing_of
-  p-role aProposer h = refl
+  p-role a_proposer h = refl
   p-role an_acceptor h = absurd h
-  p-role aLearner h = absurd h
+  p-role a_learner h = absurd h
   p-role no_role h = absurd h
 
   p-change : (code : Code) → Holds (takes_proposer (arm_at a m code)) → change_of z a b m q c code ≡ given (change_of z a b m q c₀ code).proposer c (change_of z a b m q c₀ code)
@@ -106,9 +106,9 @@ module _ (z : Sizes) (a b : ℕ) (m : Message) (q q₀ : Proposer) (c c₀ : Acc
 
   a-role : (r : Role) → Holds (eqb (arm_of_role r) 2) → crashing_of q c r ≡ given q (crashing_of q₀ c r).acceptor (crashing_of q₀ c r)
   unfolding crashing_of
-  a-role aProposer h = absurd h
+  a-role a_proposer h = absurd h
   a-role an_acceptor h = refl
-  a-role aLearner h = absurd h
+  a-role a_learner h = absurd h
   a-role no_role h = absurd h
 
   a-change : (code : Code) → Holds (eqb (arm_at a m code) 2) → change_of z a b m q c code ≡ given q (change_of z a b m q₀ c code).acceptor (change_of z a b m q₀ c code)
@@ -136,9 +136,9 @@ module _ (z : Sizes) (a b : ℕ) (m : Message) (q q₀ : Proposer) (c c₀ : Acc
 
   n-role : (r : Role) → Holds (takes_neither (arm_of_role r)) → crashing_of q c r ≡ given q c (crashing_of q₀ c₀ r)
   unfolding crashing_of
-  n-role aProposer h = absurd h
+  n-role a_proposer h = absurd h
   n-role an_acceptor h = absurd h
-  n-role aLearner h = refl
+  n-role a_learner h = refl
   n-role no_role h = refl
 
   n-change : (code : Code) → Holds (takes_neither (arm_at a m code)) → change_of z a b m q c code ≡ given q c (change_of z a b m q₀ c₀ code)
@@ -167,9 +167,9 @@ module _ (z : Sizes) (a b : ℕ) (m : Message) (q q₀ : Proposer) (c c₀ : Acc
 
   quiet-role : (r : Role) → Holds (not (eqb (arm_of_role r) 3)) → ((crashing_of q c r).hears ≡ false) × ((crashing_of q c r).stops ≡ false)
   unfolding crashing_of
-  quiet-role aProposer h = (refl, refl)
+  quiet-role a_proposer h = (refl, refl)
   quiet-role an_acceptor h = (refl, refl)
-  quiet-role aLearner h = absurd h
+  quiet-role a_learner h = absurd h
   quiet-role no_role h = (refl, refl)
 
   quiet-change : (code : Code) → Holds (not (eqb (arm_at a m code) 3)) → ((change_of z a b m q c code).hears ≡ false) × ((change_of z a b m q c code).stops ≡ false)
@@ -197,9 +197,9 @@ module _ (z : Sizes) (a b : ℕ) (m : Message) (q q₀ : Proposer) (x x₀ y y�
   p-alive no_kind r h = absurd h
 
   p-crash : (r : Role) → Holds (takes_proposer (arm_of_role r)) → alive_in r q.alive x y ≡ alive_in r q.alive x₀ y₀
-  p-crash aProposer h = refl
+  p-crash a_proposer h = refl
   p-crash an_acceptor h = absurd h
-  p-crash aLearner h = absurd h
+  p-crash a_learner h = absurd h
   p-crash no_role h = absurd h
 
   p-test : (code : Code) → Holds (takes_proposer (arm_at a m code)) → test_no z a b m q x y code ≡ test_no z a b m q x₀ y₀ code
@@ -224,9 +224,9 @@ module _ (z : Sizes) (a b : ℕ) (m : Message) (q q₀ : Proposer) (x x₀ y y�
   a-alive no_kind h = absurd h
 
   a-crash : (r : Role) → Holds (eqb (arm_of_role r) 2) → alive_in r q.alive x y ≡ alive_in r q₀.alive x y₀
-  a-crash aProposer h = absurd h
+  a-crash a_proposer h = absurd h
   a-crash an_acceptor h = refl
-  a-crash aLearner h = absurd h
+  a-crash a_learner h = absurd h
   a-crash no_role h = absurd h
 
   a_test : (code : Code) → Holds (eqb (arm_at a m code) 2) → test_no z a b m q x y code ≡ test_no z a b m q₀ x y₀ code
@@ -251,9 +251,9 @@ module _ (z : Sizes) (a b : ℕ) (m : Message) (q q₀ : Proposer) (x x₀ y y�
   n-alive no_kind h = refl
 
   n-crash : (r : Role) → Holds (eqb (arm_of_role r) 0) → alive_in r q.alive x y ≡ alive_in r q₀.alive x₀ y₀
-  n-crash aProposer h = absurd h
+  n-crash a_proposer h = absurd h
   n-crash an_acceptor h = absurd h
-  n-crash aLearner h = absurd h
+  n-crash a_learner h = absurd h
   n-crash no_role h = refl
 
   n-test : (code : Code) → Holds (eqb (arm_at a m code) 0) → test_no z a b m q x y code ≡ test_no z a b m q₀ x₀ y₀ code
@@ -278,9 +278,9 @@ module _ (z : Sizes) (a b : ℕ) (m : Message) (q q₀ : Proposer) (x x₀ y y�
   l-alive no_kind h = absurd h
 
   l-crash : (r : Role) → Holds (eqb (arm_of_role r) 3) → alive_in r q.alive x y ≡ alive_in r q₀.alive x₀ y
-  l-crash aProposer h = absurd h
+  l-crash a_proposer h = absurd h
   l-crash an_acceptor h = absurd h
-  l-crash aLearner h = refl
+  l-crash a_learner h = refl
   l-crash no_role h = absurd h
 
   l-test : (code : Code) → Holds (eqb (arm_at a m code) 3) → test_no z a b m q x y code ≡ test_no z a b m q₀ x₀ y code
@@ -543,9 +543,9 @@ left-kind announcement h3 h4 h2 h1 = absurd h3
 left-kind no_kind h3 h4 h2 h1 = tt
 
 left-role : (r : Role) → Holds (not (eqb (arm_of_role r) 3)) → Holds (not (eqb (arm_of_role r) 4)) → Holds (not (eqb (arm_of_role r) 2)) → Holds (not (eqb (arm_of_role r) 1)) → Holds (eqb (arm_of_role r) 0)
-left-role aProposer h3 h4 h2 h1 = absurd h1
+left-role a_proposer h3 h4 h2 h1 = absurd h1
 left-role an_acceptor h3 h4 h2 h1 = absurd h2
-left-role aLearner h3 h4 h2 h1 = absurd h3
+left-role a_learner h3 h4 h2 h1 = absurd h3
 left-role no_role h3 h4 h2 h1 = tt
 
 left-code : (a : ℕ) (m : Message) (code : Code) → Holds (not (eqb (arm_at a m code) 3)) → Holds (not (eqb (arm_at a m code) 4)) → Holds (not (eqb (arm_at a m code) 2)) → Holds (not (eqb (arm_at a m code) 1)) → Holds (eqb (arm_at a m code) 0)

@@ -15,7 +15,7 @@ use Rattle.model.specs.declared.Proposer.{Proposer}
 use Rattle.model.specs.declared.Acceptor.{Acceptor}
 use Rattle.model.specs.declared.Message.{Message}
 use Rattle.model.specs.declared.Event.{Event}
-use Rattle.model.specs.Records.{State, Kind, free, internal, proposal, acknowledgement, rejection, announcement, no_kind, kind_of, Role, aProposer, an_acceptor, aLearner, no_role, role_of, fresh_proposer, fresh_acceptor, fresh_learner, free_slot, proposer_of, acceptor_of, learner_of, slot_of, put_proposer, put_slots, freeing}
+use Rattle.model.specs.Records.{State, Kind, free, internal, proposal, acknowledgement, rejection, announcement, no_kind, kind_of, Role, a_proposer, an_acceptor, a_learner, no_role, role_of, fresh_proposer, fresh_acceptor, fresh_learner, free_slot, proposer_of, acceptor_of, learner_of, slot_of, put_proposer, put_slots, freeing}
 use Rattle.model.specs.Rules.{is_current, accepts, answering, crashed_proposer, crashed_acceptor, crashed_learner, accepting, gaining, buffering, deciding}
 use Rattle.model.specs.Table.{Internal, Proposal, Announcement, is_free, post}
 use Rattle.model.specs.Events.{Code, receive, deliver, drop, duplicate, propose, refine, decide, crash, no_code, code_of, Effect, quiet, effect, delivery, proposes, crashed, tests}
@@ -160,11 +160,11 @@ module _ (z : Sizes) (N : News) (s : State) (x : Ranges z s) (a : ℕ) (taken : 
 
 crashed-move : {A : ℕ} {N : News} (s : State) (r : Role) (i : ℕ) → Move A N (world_of s) (world_of (sent (quiet (crashed s r i))))
 unfolding crashed crashed_proposer crashed_acceptor crashed_learner
-crashed-move s aProposer i =
+crashed-move s a_proposer i =
     rests (set-rel (λ (p q : Proposer). crashed_proposer q ≡ crashed_proposer p) (λ p. refl) fresh_proposer s.proposers i _ refl) (λ j. refl) (λ l. unworn _) (posted s Nothing none _ (still s Nothing))
 crashed-move s an_acceptor i =
     rests (λ j. refl) (set-rel (λ (p q : Acceptor). q.accepted ≡ p.accepted) (λ p. refl) fresh_acceptor s.acceptors i _ refl) (λ l. unworn _) (posted s Nothing none _ (still s Nothing))
-crashed-move s aLearner i =
+crashed-move s a_learner i =
     rests (λ j. refl) (λ j. refl) (set-rel Worn unworn fresh_learner s.learners i (crashed_learner (learner_of s i)) (record { learnt = refl; heard = λ n. inl refl })) (posted s Nothing none _ (still s Nothing))
 crashed-move s no_role i = rests (λ i. refl) (λ j. refl) (λ l. unworn _) (posted s Nothing none _ (still s Nothing))
 

@@ -13,7 +13,7 @@ use Rattle.sets.specs.declared.scans.Scans.{Scans}
 use Rattle.model.specs.declared.Proposer.{Proposer}
 use Rattle.model.specs.declared.Message.{Message}
 use Rattle.model.specs.declared.Event.{Event}
-use Rattle.model.specs.Records.{State, Kind, free, internal, proposal, acknowledgement, rejection, announcement, no_kind, kind_of, Role, aProposer, an_acceptor, aLearner, no_role, role_of, fresh, fresh_proposer, fresh_acceptor, fresh_learner, free_slot, proposer_of, acceptor_of, slot_of}
+use Rattle.model.specs.Records.{State, Kind, free, internal, proposal, acknowledgement, rejection, announcement, no_kind, kind_of, Role, a_proposer, an_acceptor, a_learner, no_role, role_of, fresh, fresh_proposer, fresh_acceptor, fresh_learner, free_slot, proposer_of, acceptor_of, slot_of}
 use Rattle.model.specs.Rules.{greatest_number, is_current, accepts}
 use Rattle.model.specs.Table.{Internal, Proposal, Announcement}
 use Rattle.model.specs.Events.{Code, receive, deliver, drop, duplicate, propose, refine, decide, crash, no_code, code_of, effect, delivery, proposes, crashed, tests}
@@ -161,9 +161,9 @@ module _ {z : Sizes} {s : State} (x : Holds (ranges z) z s) where
 
   crashed-range : (r : Role) (i : ℕ) → Holds (ranges z) z (crashed s r i)
   unfolding crashed
-  crashed-range aProposer i = put-proposer x i _ (crashed-proposer-range z _ (x.proposers i))
+  crashed-range a_proposer i = put-proposer x i _ (crashed-proposer-range z _ (x.proposers i))
   crashed-range an_acceptor i = put-acceptor x i _ (crashed-acceptor-range z _ (x.acceptors i))
-  crashed-range aLearner i = put-learner x i _ (crashed-learner-range z _ (x.learners i))
+  crashed-range a_learner i = put-learner x i _ (crashed-learner-range z _ (x.learners i))
   crashed-range no_role i = x
 
 pub slot-fields : (z : Sizes) (m : Message) → message_in_range z m ≡ true → fields_in_range z m (kind_of m.kind) ≡ true

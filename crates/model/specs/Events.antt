@@ -7,7 +7,7 @@ use Rattle.model.specs.declared.Proposer.{Proposer}
 use Rattle.model.specs.declared.Message.{Message}
 use Rattle.model.specs.declared.Answer.{Answer}
 use Rattle.model.specs.declared.Answer.TheVariants.{Ok, Learnt, Decided}
-use Rattle.model.specs.Records.{State, Kind, free, internal, proposal, acknowledgement, rejection, announcement, no_kind, kind_of, Role, aProposer, an_acceptor, aLearner, no_role, role_of, addressed, proposer_of, acceptor_of, learner_of, slot_of, put_proposer, put_acceptor, put_learner, freeing}
+use Rattle.model.specs.Records.{State, Kind, free, internal, proposal, acknowledgement, rejection, announcement, no_kind, kind_of, Role, a_proposer, an_acceptor, a_learner, no_role, role_of, addressed, proposer_of, acceptor_of, learner_of, slot_of, put_proposer, put_acceptor, put_learner, freeing}
 use Rattle.choice.specs.Tests.{◌unless◌, ◌⨾◌, refusal, ok}
 use Rattle.model.specs.Rules.{buffering, is_current, acknowledging, rejecting, propose_no, proposing, refine_no, refining, decide_no, deciding, crashed_proposer, accepts, accepting, gaining, crashed_acceptor, learns, listening, crashed_learner}
 use Rattle.model.specs.Table.{Internal, Proposal, Acknowledgement, Rejection, Announcement, is_free, free_slots, every_one, every_other}
@@ -78,9 +78,9 @@ proposes z s a p = record {
 
 -- not alive from then on
 unfoldable pub crashed : State → Role → ℕ → State
-crashed s aProposer i = put_proposer s i (crashed_proposer (proposer_of s i))
+crashed s a_proposer i = put_proposer s i (crashed_proposer (proposer_of s i))
 crashed s an_acceptor i = put_acceptor s i (crashed_acceptor (acceptor_of s i))
-crashed s aLearner i = put_learner s i (crashed_learner (learner_of s i))
+crashed s a_learner i = put_learner s i (crashed_learner (learner_of s i))
 crashed s no_role i = s
 
 unfoldable pub effect : Sizes → State → Code → ℕ → ℕ → Effect
@@ -106,16 +106,16 @@ effect z s no_code a b = quiet s
 
 -- 3: the parties that exist
 abbrev pub exists : Sizes → Role → ℕ → Bool
-exists z aProposer i = ltb i z.proposers
+exists z a_proposer i = ltb i z.proposers
 exists z an_acceptor i = ltb i z.acceptors
-exists z aLearner i = ltb i z.learners
+exists z a_learner i = ltb i z.learners
 exists z no_role i = false
 
 -- 5: the parties that have not crashed
 abbrev pub is_alive : State → Role → ℕ → Bool
-is_alive s aProposer i = (proposer_of s i).alive
+is_alive s a_proposer i = (proposer_of s i).alive
 is_alive s an_acceptor i = (acceptor_of s i).alive
-is_alive s aLearner i = (learner_of s i).alive
+is_alive s a_learner i = (learner_of s i).alive
 is_alive s no_role i = true
 
 -- 8: free slots, where an event has left its records, for the messages that it sends

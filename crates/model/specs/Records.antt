@@ -26,20 +26,20 @@ abbrev pub kind_of : ℕ → Kind
 kind_of n = get_or (free ∷ internal ∷ proposal ∷ acknowledgement ∷ rejection ∷ announcement ∷ []) n no_kind
 
 pub data Role : Type 0 where
-  aProposer an_acceptor aLearner no_role : Role
+  a_proposer an_acceptor a_learner no_role : Role
 
 -- of Crash: role 1 proposer, 2 acceptor, 3 learner
 abbrev pub role_of : ℕ → Role
-role_of n = get_or (no_role ∷ aProposer ∷ an_acceptor ∷ aLearner ∷ []) n no_role
+role_of n = get_or (no_role ∷ a_proposer ∷ an_acceptor ∷ a_learner ∷ []) n no_role
 
 -- whom a message of a kind is addressed to
 abbrev pub addressed : Kind → Role
 addressed free = no_role
-addressed internal = aProposer
+addressed internal = a_proposer
 addressed proposal = an_acceptor
-addressed acknowledgement = aProposer
-addressed rejection = aProposer
-addressed announcement = aLearner
+addressed acknowledgement = a_proposer
+addressed rejection = a_proposer
+addressed announcement = a_learner
 addressed no_kind = no_role
 
 -- ---- fresh: all alive, passive, sets empty, numbers 0, slots free

@@ -12,7 +12,7 @@ use Rattle.sizes.specs.declared.Sizes.{Sizes}
 use Rattle.sets.specs.declared.scans.Scans.{Scans}
 use Rattle.sets.specs.Scans.{◌⊆◌}
 use Rattle.sets.proofs.ScanLaws.{strictly-true, ⊆-refl}
-use Rattle.model.specs.Records.{State, Kind, free, internal, proposal, acknowledgement, rejection, announcement, no_kind, kind_of, Role, aProposer, an_acceptor, aLearner, no_role, role_of, fresh_learner, proposer_of, acceptor_of, learner_of, slot_of, put_learner, freeing}
+use Rattle.model.specs.Records.{State, Kind, free, internal, proposal, acknowledgement, rejection, announcement, no_kind, kind_of, Role, a_proposer, an_acceptor, a_learner, no_role, role_of, fresh_learner, proposer_of, acceptor_of, learner_of, slot_of, put_learner, freeing}
 use Rattle.model.specs.Rules.{is_current, accepts, learns, newly_heard, listening, crashed_learner}
 use Rattle.model.specs.Events.{Code, receive, deliver, drop, duplicate, propose, refine, decide, crash, no_code, code_of, Effect, effect, delivery, proposes, crashed}
 use Rattle.model.specs.Step.{stepped, step_no, step, sent}
@@ -63,9 +63,9 @@ module _ (z : Sizes) (s : State) (l : ℕ) where
 module _ (z : Sizes) (s : State) (l : ℕ) where
   crash-stays : (r : Role) (i : ℕ) → (learner_of (crashed s r i) l).learnt ≡ (learner_of s l).learnt
   unfolding crashed crashed_learner
-  crash-stays aProposer i = refl
+  crash-stays a_proposer i = refl
   crash-stays an_acceptor i = refl
-  crash-stays aLearner i = same-put s i (crashed_learner (learner_of s i)) refl l
+  crash-stays a_learner i = same-put s i (crashed_learner (learner_of s i)) refl l
   crash-stays no_role i = refl
 
   effect-stays : (c : Code) (a b : ℕ) → StaysOrSaid s l (sent (effect z s c a b)) (effect z s c a b).answer

@@ -1,0 +1,18 @@
+-- `ymd_run_text` meets its contract. Assumes nothing.
+use mathlib.Core.Path.{sym, ap, ◌∙◌}
+use Rattle.numbers.specs.Coding.{written_no, written_next}
+use Rattle.numbers.specs.declared.Written.{Written}
+use borrow.Author.Rules.{rules}
+use Rattle.yazhmandu.proofs.text_call.ymd_run_text.Goals as goal
+
+pub returns-in-Next : goal.returns-in-Next
+returns-in-Next c = let a = c.args in
+    let w = c.print-printed.ensures in
+    let e = sym c.in-Next.is in
+    (ap written_no e ∙ w.2, w.1, ap (λ (x : Written). written_next x a.length.now) (e ∙ w.0))
+
+pub returns-in-Refused : goal.returns-in-Refused
+returns-in-Refused c = let a = c.args in
+    let w = c.print-printed.ensures in
+    let e = sym c.in-Refused.is in
+    (ap written_no e ∙ w.2, w.1, ap (λ (x : Written). written_next x a.length.now) (e ∙ w.0))

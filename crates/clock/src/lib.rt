@@ -1,5 +1,6 @@
 // The clock rule: the scan time of a handheld that has no calendar, only a 32-bit millisecond tick that wraps.
 #![tactic(auto)]
+
 ghost use Rattle.std.specs.Prelude.{◌≡◌};
 ghost use Rattle.clock.specs.Clock.{clock_rule_no, clock_rule, clock_no};
 

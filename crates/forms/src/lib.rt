@@ -1,5 +1,6 @@
 // Numbers of the coding one after the other, as every written form has them: passed over, taken into lent room, put and written.
 #![tactic(auto)]
+
 ghost use Rattle.std.specs.Prelude.{◌≡◌, leb, length};
 ghost use Rattle.std.proofs.lemmas.List.Edits.{sets};
 ghost use Rattle.numbers.specs.Coding.{put_end, written_no};

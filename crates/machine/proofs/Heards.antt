@@ -46,16 +46,16 @@ pub ear-told : (l : Learner) (p at : ℕ) (there : Heard) (x : Ear) → length l
     → x ≡ record { alive = l.alive; learnt = l.learnt; heard = if ltb p 8 then there else unheard } → x ≡ ear_of l p
 ear-told l p at there x eight a h e =
     e ∙ ap (λ (w : Heard). record { alive = l.alive; learnt = l.learnt; heard = w })
-      (ap (λ (w : Heard). if ltb p 8 then w else unheard) (h ∙ ap (λ (k : ℕ). get_or l.heard k unheard) a) ∙ heard-there l.heard p eight)
+    (ap (λ (w : Heard). if ltb p 8 then w else unheard) (h ∙ ap (λ (k : ℕ). get_or l.heard k unheard) a) ∙ heard-there l.heard p eight)
 
 -- and it is put back
 pub ear-held : (l : Learner) (p at : ℕ) (there h : Heard) (x : Ear) → length l.heard ≡ 8 → at ≡ place_of p → there ≡ get_or l.heard at unheard → h ≡ (if ltb p 8 then x.heard else there)
     → record { alive = x.alive; learnt = x.learnt; heard = set l.heard at h } ≡ put_ear l p x
 ear-held l p at there h x eight a e g =
     ap (λ (hs : List Heard). record { alive = x.alive; learnt = x.learnt; heard = hs })
-      (ap (set l.heard at) (g ∙ ap (λ (w : Heard). if ltb p 8 then x.heard else w) (e ∙ ap (λ (k : ℕ). get_or l.heard k unheard) a))
-        ∙ ap (λ (k : ℕ). set l.heard k (if ltb p 8 then x.heard else get_or l.heard (place_of p) unheard)) a
-        ∙ held-there l.heard p x.heard eight)
+    (ap (set l.heard at) (g ∙ ap (λ (w : Heard). if ltb p 8 then x.heard else w) (e ∙ ap (λ (k : ℕ). get_or l.heard k unheard) a))
+    ∙ ap (λ (k : ℕ). set l.heard k (if ltb p 8 then x.heard else get_or l.heard (place_of p) unheard)) a
+    ∙ held-there l.heard p x.heard eight)
 
 -- three fields of it, stored one after the other
 pub stored-thrice : (t : List Learner) (i : ℕ) (d : Learner) (k g f : Learner → Learner) → i < length t

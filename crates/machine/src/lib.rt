@@ -1,5 +1,6 @@
 // The step machine: events on the records that a caller lends, and a whole run on records of its own.
 #![tactic(auto)]
+
 pub mod acceptors;
 pub mod calls;
 mod lent;

@@ -1,5 +1,6 @@
 // The records of a run, and the rules of one party by value. What each event does to a run is defined in specs/.
 #![tactic(auto)]
+
 pub mod acceptors;
 pub mod learners;
 pub mod messages;

@@ -1,5 +1,6 @@
 // The number coding of the written forms: groups of seven bits, low group first, the top bit set while more follow.
 #![tactic(auto)]
+
 ghost use Rattle.std.specs.Prelude.{◌≡◌, ◌+◌, ◌*◌, ◌≤◌, ◌<◌, ◌^◌, false, ltb, length, drop};
 ghost use Rattle.std.proofs.lemmas.List.Edits.{sets};
 ghost use Rattle.numbers.specs.Coding.{groups_of, most_of, last_group, groups_from, read_number, form, put_end, number_written, after_number, number_written_no, written_no};

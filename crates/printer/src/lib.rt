@@ -1,5 +1,6 @@
 // The text of a run: what the run printer prints.
 #![tactic(auto)]
+
 ghost use Rattle.std.specs.Prelude.{◌≡◌, ◌++◌, ◌+◌, ◌*◌, ◌≤◌, eqb, length, true};
 ghost use Rattle.choice.specs.Choice.{if◌then◌else◌};
 ghost use Rattle.numbers.specs.Coding.{written_no};

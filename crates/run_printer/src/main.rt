@@ -1,5 +1,6 @@
 // The run printer: a schedule from standard input, the text of its run to standard output.
 #![tactic(auto)]
+
 ghost use Rattle.std.specs.Prelude.{◌≡◌, ◌≤◌, length};
 ghost use Rattle.std.proofs.lemmas.List.Edits.{sets};
 ghost use Rattle.printer.specs.Text.{longest_text};

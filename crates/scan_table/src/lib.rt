@@ -1,6 +1,7 @@
 // The scan table's written form: S, then for each of S scans tag, shelf, device and time.
 // In lent room a scan is four numbers in a row: tag, shelf, device, time.
 #![tactic(auto)]
+
 ghost use Rattle.std.specs.Prelude.{◌≡◌, ◌%◌, length, get_or};
 ghost use Rattle.numbers.specs.Coding.{limit_no, written_no};
 ghost use Rattle.numbers.specs.declared.Limit.TheVariants.{Table};

@@ -1,6 +1,7 @@
 // The schedule's written form: P, A, L, M, S, E, then for each of E events code, a and b.
 // In lent room an event is three numbers in a row: code, a, b.
 #![tactic(auto)]
+
 ghost use Rattle.std.specs.Prelude.{◌≡◌, ℕ, ◌<◌, length, get_or};
 ghost use Rattle.numbers.specs.Coding.{written_no};
 ghost use Rattle.forms.specs.Forms.{form_no, room_no, into_room, after_room, forms};

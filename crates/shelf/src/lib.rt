@@ -1,5 +1,6 @@
 // The shelf question: where a crate was seen last, by the scans of its tag in a set.
 #![tactic(auto)]
+
 ghost use Rattle.std.specs.Prelude.{◌≡◌, ◌*◌, ◌≤◌, length};
 ghost use Rattle.choice.specs.Choice.{if◌then◌else◌};
 ghost use Rattle.scan_table.specs.Table.{read_table};

@@ -1,5 +1,6 @@
 // The sizes of a run and their ranges.
 #![tactic(auto)]
+
 ghost use Rattle.std.specs.Prelude.{◌≡◌};
 ghost use Rattle.sizes.specs.Sizes.{between, scans_in_range, sizes_in_range};
 

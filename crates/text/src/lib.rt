@@ -1,5 +1,6 @@
 // Words, decimal numbers and hex digits put into a buffer from a place on. What would stand past the buffer's end is left out.
 #![tactic(auto)]
+
 ghost use Rattle.std.specs.Prelude.{◌≡◌, ◌<◌, length};
 ghost use Rattle.std.proofs.lemmas.List.Edits.{sets};
 ghost use Rattle.text.specs.Digits.{digit, decimal, hex};

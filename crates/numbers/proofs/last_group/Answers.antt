@@ -14,7 +14,7 @@ use Rattle.numbers.proofs.last_group.Goals.{Joined-group-eq0, then-group-eq0+els
 first : (c : Joined-group-eq0) → (eqb c.args.group 0 && ltb 0 c.args.earlier) ≡ false
 first c =
     elim c.if-group-eq0.branch [
-      then-group-eq0+else-earlier-gt0 w ↦ simp (eq-eqb _ _ w.if-group-eq0.true, le-ltb 0 c.args.earlier (omega arith))
+      | then-group-eq0+else-earlier-gt0 w ↦ simp (eq-eqb _ _ w.if-group-eq0.true, le-ltb 0 c.args.earlier (omega arith))
       | else-group-eq0 w ↦ simp (ne_eqb _ _ w.if-group-eq0.false)
     ]
 

@@ -25,7 +25,7 @@ loop-i-preserved c = let a = c.args in
     let l = c.loop-i in (
       omega arith,
       elim c.if-fields-i.branch [
-        then-fields-i w ↦ newest-considered a.fields.now a.set a.tag l.i l.invariant.1 w.consider-found.ensures w.found-is
+        | then-fields-i w ↦ newest-considered a.fields.now a.set a.tag l.i l.invariant.1 w.consider-found.ensures w.found-is
         | else-fields-i w ↦ newest-other a.fields.now a.set a.tag l.i (w.found-is ∙ l.invariant.1) w.if-fields-i.false
       ],
     )

@@ -20,18 +20,23 @@ returns c =
     let sized = sizes_in_range z && lengths_are z (length ps) (length acs) (length ls) (length t) in
     let sound = c.sound_no-sound.ensures ∙ (λ i. sound_of sized (c.proposers_in_range-p.ensures i) (c.acceptors_in_range-a.ensures i) (c.learners_in_range-l.ensures i) (c.messages_in_range-m.ensures i)) in
     let tests : c.first_no-refusal.result ≡ run_tests z ps acs ls t ns log a.n =
-      c.first_no-refusal.ensures ∙ (λ i. refusal (sound i) ⨾ c.events_no-counted.ensures i)
-        ∙ sound-first (sized && all (proposer_in_range z) ps && all (acceptor_in_range z) acs && all (learner_in_range z) ls && all (message_in_range z) t) (events_no (length ns) (length log) a.n) in
+    c.first_no-refusal.ensures ∙ (λ i. refusal (sound i) ⨾ c.events_no-counted.ensures i)
+    ∙ sound-first (sized && all (proposer_in_range z) ps && all (acceptor_in_range z) acs && all (learner_in_range z) ls && all (message_in_range z) t) (events_no (length ns) (length log) a.n) in
     let same = ap (driven z ps acs ls t ns log) (c.count_if-k.ensures ∙ ap (λ (r : ℕ). turns_of r a.n) tests) in
     let left = run-left z ps acs ls t ns log a.n in
-    let g = c.drive.ensures in
-    (
+    let g = c.drive.ensures in (
       tests ∙ run-refused z ps acs ls t ns log a.n,
       (
-        (g.0 ∙ ap (λ (x : Ran). x.proposers) same ∙ left.proposers,
-        (g.1.0 ∙ ap (λ (x : Ran). x.acceptors) same ∙ left.acceptors,
-        (g.1.1.0 ∙ ap (λ (x : Ran). x.learners) same ∙ left.learners,
-        g.1.1.1.0 ∙ ap (λ (x : Ran). x.slots) same ∙ left.slots))),
+        (
+          g.0 ∙ ap (λ (x : Ran). x.proposers) same ∙ left.proposers,
+          (
+            g.1.0 ∙ ap (λ (x : Ran). x.acceptors) same ∙ left.acceptors,
+            (
+              g.1.1.0 ∙ ap (λ (x : Ran). x.learners) same ∙ left.learners,
+              g.1.1.1.0 ∙ ap (λ (x : Ran). x.slots) same ∙ left.slots,
+            ),
+          ),
+        ),
         g.1.1.1.1 ∙ ap (λ (x : Ran). x.log) same ∙ left.log,
       ),
     )

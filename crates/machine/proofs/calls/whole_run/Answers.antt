@@ -32,9 +32,9 @@ begun : (z : Sizes) (ns : List ℕ) (n : ℕ) (log : List ℕ) (p : Proposer) (a
     → sizes_in_range z ≡ true → leb n most_events ≡ true → has_numbers ns n log ≡ true → FreshFirst z (replicate 8 p) (replicate 7 a) (replicate 8 l) t
 begun z ns n log p a l x k t ep ea el ex ek et h f s =
     let same : ◌≡◌ {A = State} (lent (replicate 8 fresh_proposer) (replicate 7 fresh_acceptor) (replicate 8 fresh_learner) (replicate (turns_of (whole_run_no z ns n log) z.slots) free_slot ++ drop (turns_of (whole_run_no z ns n log) z.slots) (replicate 512 taken_slot)))
-        (lent (replicate 8 p) (replicate 7 a) (replicate 8 l) t) =
-      (λ i. lent (replicate 8 (sym ep i)) (replicate 7 (sym ea i)) (replicate 8 (sym el i)) (replicate (sym ek i) free_slot ++ drop (sym ek i) (replicate 512 (sym ex i))))
-      ∙ ap (lent (replicate 8 p) (replicate 7 a) (replicate 8 l)) (sym et) in
+    (lent (replicate 8 p) (replicate 7 a) (replicate 8 l) t) =
+    (λ i. lent (replicate 8 (sym ep i)) (replicate 7 (sym ea i)) (replicate 8 (sym el i)) (replicate (sym ek i) free_slot ++ drop (sym ek i) (replicate 512 (sym ex i))))
+    ∙ ap (lent (replicate 8 p) (replicate 7 a) (replicate 8 l)) (sym et) in
     subst (λ (u : State). FreshFirst z u.proposers u.acceptors u.learners u.slots) same (whole-run-first z ns n log 512 taken_slot refl h f s)
 
 first : (c : After-fill_messages) → sizes_in_range c.args.z ≡ true → leb c.args.n most_events ≡ true → has_numbers c.args.events.now c.args.n c.args.log.now ≡ true
@@ -44,7 +44,7 @@ first c =
     let refused = c.whole_run_no-refusal.ensures ∙ ap (whole_no (sizes_in_range a.z)) c.events_no-counted.ensures in
     let slots = c.slots_if-slots.ensures ∙ ap (λ (r : ℕ). turns_of r a.z.slots) refused in
     begun a.z a.events.now a.n a.log.now c.fresh-p.result c.fresh-a.result c.fresh-l.result c.taken_slot-m.result c.slots_if-slots.result c.fill_messages.new.t
-      c.fresh-p.ensures c.fresh-a.ensures c.fresh-l.ensures c.taken_slot-m.ensures slots c.fill_messages.ensures
+    c.fresh-p.ensures c.fresh-a.ensures c.fresh-l.ensures c.taken_slot-m.ensures slots c.fill_messages.ensures
 
 pub fill_messages-requires : goal.fill_messages-requires
 fill_messages-requires c =
@@ -68,9 +68,8 @@ returns c =
     let acs = replicate 7 c.fresh-a.result in
     let ls = replicate 8 c.fresh-l.result in
     let t = c.fill_messages.new.t in
-    let k = (goal.at.returns c).After-slots_if-slots in
-    (
+    let k = (goal.at.returns c).After-slots_if-slots in (
       refused k,
       c.drive.ensures.1.1.1.1 ∙ ap (λ (n : ℕ). (driven a.z ps acs ls t a.events.now a.log.now n).log) (turned k)
-        ∙ whole-run-log a.z ps acs ls t a.events.now a.n a.log.now (first (goal.at.returns c).After-fill_messages),
+          ∙ whole-run-log a.z ps acs ls t a.events.now a.n a.log.now (first (goal.at.returns c).After-fill_messages),
     )

@@ -20,9 +20,9 @@ returns c =
     let h = c.heard_at-there.ensures in
     let at = c.place_of-at.result in
     stored-thrice a.t.now a.i _
-      (λ l. record { alive = a.x.alive; learnt = l.learnt; heard = l.heard })
-      (λ l. record { alive = l.alive; learnt = a.x.learnt; heard = l.heard })
-      (λ l. record { alive = l.alive; learnt = l.learnt; heard = set l.heard at c.held_in-h.result })
-      c.requires
+    (λ l. record { alive = a.x.alive; learnt = l.learnt; heard = l.heard })
+    (λ l. record { alive = l.alive; learnt = a.x.learnt; heard = l.heard })
+    (λ l. record { alive = l.alive; learnt = l.learnt; heard = set l.heard at c.held_in-h.result })
+    c.requires
     ∙ ap (set a.t.now a.i) (ear-held (get_or a.t.now a.i _) a.p.0 at c.heard_at-there.result c.held_in-h.result a.x h.eight c.place_of-at.ensures h.there c.held_in-h.ensures)
     ∙ ap (λ l. set a.t.now a.i (put_ear l a.p.0 a.x)) (get_or_default a.t.now a.i _ fresh_learner c.requires)

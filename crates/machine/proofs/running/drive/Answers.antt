@@ -38,7 +38,7 @@ loop-k-preserved c =
     let now : Ran = record { proposers = l.ps; acceptors = l.acs; learners = l.ls; slots = l.t; log = l.log } in
     let noting = c.note.ensures ∙ ap (noted l.log k) g.0 in
     let one : ◌≡◌ {A = Ran} (record { proposers = c.step-answer.new.ps; acceptors = c.step-answer.new.acs; learners = c.step-answer.new.ls; slots = c.step-answer.new.t; log = c.note.new.log }) (onward a.z c.event_at-e.result k now) =
-      λ i. record { proposers = g.1.0 i; acceptors = g.1.1.0 i; learners = g.1.1.1.0 i; slots = g.1.1.1.1 i; log = noting i } in
+    λ i. record { proposers = g.1.0 i; acceptors = g.1.1.0 i; learners = g.1.1.1.0 i; slots = g.1.1.1.1 i; log = noting i } in
     (one ∙ ap (λ (e : Event). onward a.z e k now) c.event_at-e.ensures ∙ ran-next a.z a.events.now first now k l.invariant.0, omega arith)
 
 pub returns : goal.returns

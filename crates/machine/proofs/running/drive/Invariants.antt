@@ -6,7 +6,7 @@ use Rattle.machine.proofs.running.drive.Given as goal
 abbrev pub invariant-loop-k : goal.invariant-loop-k
 invariant-loop-k l =
     (◌≡◌ {A = Ran} (record { proposers = l.ps; acceptors = l.acs; learners = l.ls; slots = l.t; log = l.log })
-      (ran_to l.z l.events (record { proposers = l.initial.ps; acceptors = l.initial.acs; learners = l.initial.ls; slots = l.initial.t; log = l.initial.log }) l.k))
+    (ran_to l.z l.events (record { proposers = l.initial.ps; acceptors = l.initial.acs; learners = l.initial.ls; slots = l.initial.t; log = l.initial.log }) l.k))
     × (l.k ≤ l.n)
 
 abbrev pub decreases-loop-k : goal.decreases-loop-k

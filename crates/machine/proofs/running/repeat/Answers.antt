@@ -20,7 +20,7 @@ loop-k-preserved c =
     let g = c.step-answer.ensures in
     let now : Left = record { answer = l.answer; proposers = l.ps; acceptors = l.acs; learners = l.ls; slots = l.t } in
     let one : ◌≡◌ {A = Left} (record { answer = c.step-answer.result; proposers = c.step-answer.new.ps; acceptors = c.step-answer.new.acs; learners = c.step-answer.new.ls; slots = c.step-answer.new.t }) (step_of a.z a.e l.ps l.acs l.ls l.t) =
-      λ i. record { answer = g.0 i; proposers = g.1.0 i; acceptors = g.1.1.0 i; learners = g.1.1.1.0 i; slots = g.1.1.1.1 i } in
+    λ i. record { answer = g.0 i; proposers = g.1.0 i; acceptors = g.1.1.0 i; learners = g.1.1.1.0 i; slots = g.1.1.1.1 i } in
     (one ∙ times-next a.z a.e (untouched a.ps.now a.acs.now a.ls.now a.t.now) now l.k l.invariant.0, omega arith)
 
 pub returns : goal.returns

@@ -79,8 +79,7 @@ returns c =
     let f = finished_at a.z a.e a.k a.m [] acs [] t in
     let s = (goal.at.returns c).After-send_in-s in
     let ef = left s in
-    let ei = number (goal.at.returns c).After-acceptor_at-ai in
-    (
+    let ei = number (goal.at.returns c).After-acceptor_at-ai in (
       c.reply.ensures ∙ ap (plain_answer a.e) ef ∙ said-as a.z a.e f a.m fresh_learner (quiet-finished a.z a.e a.k a.m [] acs [] t (not-of 2 3 _ c.requires.0 tt)).0,
       (
         c.store_acceptor.ensures ∙ ap (λ (n : ℕ). set acs n c.acceptor_in-c2.result) ei ∙ ap (set acs i) (c.acceptor_in-c2.ensures ∙ ap (λ (d : Decision). d.change.acceptor) ef),

@@ -53,15 +53,14 @@ returns c =
     let ep : c.proposer_of-p.result.0 ≡ p = ap (λ q. q.0) c.proposer_of-p.ensures in
     let ex : c.load_ear-x.result ≡ ear_of l p = c.load_ear-x.ensures ∙ ap (λ (n : ℕ). ear_of (get_or ls n fresh_learner) c.proposer_of-p.result.0) ei ∙ ap (ear_of l) ep in
     let ey : c.listen-y.result ≡ y = c.listen-y.ensures ∙ heard-in a.z a.e a.m c.load_ear-x.result h ∙ ap (listen_of a.z a.e a.m) ex in
-    let e2 : c.ear_in-x2.result ≡ y.ear = c.ear_in-x2.ensures ∙ ap (λ (x : Listened). x.ear) ey in
-    (
+    let e2 : c.ear_in-x2.result ≡ y.ear = c.ear_in-x2.ensures ∙ ap (λ (x : Listened). x.ear) ey in (
       c.said_in.ensures ∙ ap (λ (x : Listened). x.answer) ey ∙ ear-says a.z a.e a.k a.m ls t h,
       (
         c.store_ear.ensures
-        ∙ ap (λ (n : ℕ). set ls n (put_ear (get_or ls n fresh_learner) c.proposer_of-p.result.0 c.ear_in-x2.result)) ei
-        ∙ ap (λ (n : ℕ). set ls i (put_ear l n c.ear_in-x2.result)) ep
-        ∙ ap (λ (x : Ear). set ls i (put_ear l p x)) e2
-        ∙ ear-left a.z a.e a.k a.m ls t h,
+            ∙ ap (λ (n : ℕ). set ls n (put_ear (get_or ls n fresh_learner) c.proposer_of-p.result.0 c.ear_in-x2.result)) ei
+            ∙ ap (λ (n : ℕ). set ls i (put_ear l n c.ear_in-x2.result)) ep
+            ∙ ap (λ (x : Ear). set ls i (put_ear l p x)) e2
+            ∙ ear-left a.z a.e a.k a.m ls t h,
         c.store_message.ensures ∙ ap (set t a.k) (c.slot_heard-m2.ensures ∙ ap (λ (x : Listened). slot_after x.frees a.m) ey) ∙ ear-slots a.z a.e a.k a.m ls t h,
       ),
     )

@@ -79,8 +79,7 @@ returns c =
     let f = finished_at a.z a.e a.k a.m ps [] [] t in
     let s = (goal.at.returns c).After-send_in-s in
     let ef = left s in
-    let ei = number (goal.at.returns c).After-proposer_at-pi in
-    (
+    let ei = number (goal.at.returns c).After-proposer_at-pi in (
       c.reply.ensures ∙ ap (plain_answer a.e) ef ∙ said-as a.z a.e f a.m fresh_learner (quiet-finished a.z a.e a.k a.m ps [] [] t (not-of 1 3 _ c.requires.0 tt)).0,
       (
         c.store_proposer.ensures ∙ ap (λ (n : ℕ). set ps n c.proposer_in-q2.result) ei ∙ ap (set ps i) (c.proposer_in-q2.ensures ∙ ap (λ (d : Decision). d.change.proposer) ef),

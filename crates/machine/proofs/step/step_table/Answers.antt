@@ -53,8 +53,7 @@ returns c =
     let a = c.args in
     let t = a.t.now in
     let f = finished_at a.z a.e a.k a.m [] [] [] t in
-    let s = (goal.at.returns c).After-send_in-s in
-    (
+    let s = (goal.at.returns c).After-send_in-s in (
       c.reply.ensures ∙ ap (plain_answer a.e) (left s) ∙ said-as a.z a.e f a.m fresh_learner (quiet-finished a.z a.e a.k a.m [] [] [] t (not-of 0 3 _ c.requires.0 tt)).0,
       c.send_all.ensures ∙ ap (λ (x : Send). post (items_of x) c.store_message.new.t) (sent s) ∙ ap (post (items_of f.change.send)) (written s),
     )

@@ -50,8 +50,7 @@ returns c =
     let f = finish_of (decide_of a.z a.e a.m q fresh_acceptor fresh_learner) 0 q fresh_acceptor in
     let ei = number (goal.at.returns c).After-proposer_at-pi in
     let eq = c.load_proposer-q.ensures ∙ ap (λ (n : ℕ). get_or ps n fresh_proposer) ei in
-    let ef : c.tell-f.result ≡ f = c.tell-f.ensures ∙ ap (told_in a.z a.e a.m) eq ∙ told_in_lem a.z a.e a.m q h in
-    (
+    let ef : c.tell-f.result ≡ f = c.tell-f.ensures ∙ ap (told_in a.z a.e a.m) eq ∙ told_in_lem a.z a.e a.m q h in (
       c.reply.ensures ∙ ap (plain_answer a.e) ef ∙ said-as a.z a.e f a.m fresh_learner (told-quiet a.z a.e a.k a.m ps t h) ∙ told-says a.z a.e a.k a.m ps t h,
       (
         c.store_proposer.ensures ∙ ap (λ (n : ℕ). set ps n c.proposer_in-q2.result) ei ∙ ap (set ps i) (c.proposer_in-q2.ensures ∙ ap (λ (d : Decision). d.change.proposer) ef) ∙ told-left a.z a.e a.k a.m ps t h,

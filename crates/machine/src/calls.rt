@@ -95,8 +95,7 @@ fn slots_if(refusal: u8, z: Sizes) -> usize
 }
 
 // Every record fresh and every slot free, or 1 and all as it was.
-#[unsafe(no_mangle)]
-pub extern "C" fn machine_fresh(
+pub fn machine_fresh(
     z: Sizes,
     ps: &mut [Proposer],
     acs: &mut [Acceptor],
@@ -156,8 +155,7 @@ fn said_of(answer: Answer) -> Said
 }
 
 // One event as above, its answer as two numbers.
-#[unsafe(no_mangle)]
-pub extern "C" fn machine_step(
+pub fn machine_step(
     z: Sizes,
     ps: &mut [Proposer],
     acs: &mut [Acceptor],
@@ -192,8 +190,7 @@ fn events_no(numbers: usize, room: usize, n: u16) -> u8
 }
 
 // The first `n` events of a schedule's numbers, and their answers into the log; or a refusal and all as it was.
-#[unsafe(no_mangle)]
-pub extern "C" fn machine_run(
+pub fn machine_run(
     z: Sizes,
     ps: &mut [Proposer],
     acs: &mut [Acceptor],

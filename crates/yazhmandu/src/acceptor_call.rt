@@ -7,12 +7,11 @@ use layouts::fields::{FLAGGED_SIZE, SET_SIZE, is_flag, put_flagged, set_at};
 use machine::acceptors::{Reply, answer_by_value};
 
 // A reply is a flag and a set.
-const REPLY_SIZE: usize = FLAGGED_SIZE as usize;
+pub const REPLY_SIZE: usize = FLAGGED_SIZE as usize;
 
 // Takes a proposal's set. The record is updated, and `reply` tells whether it is accepted (0 or 1) and the set to send.
 // 1 for the number of scans and the record, 3 for the set, 5 where the acceptor has crashed. What is in the bytes the machine's call tests.
-#[unsafe(no_mangle)]
-pub extern "C" fn ymd_answer_proposal(
+pub fn ymd_answer_proposal(
     scans: u64,
     kept: &mut [u8],
     set: &[u8],

@@ -4,8 +4,7 @@ ghost use Rattle.clock.specs.Clock.{clock_rule_no, clock_rule, clock_time};
 
 use clock::ScanTime;
 
-#[unsafe(no_mangle)]
-pub extern "C" fn ymd_clock(dock_tick: u32, scan_tick: u32, dock_time: u64, time: &mut u64) -> u8
+pub fn ymd_clock(dock_tick: u32, scan_tick: u32, dock_time: u64, time: &mut u64) -> u8
     ensures { (result ≡ clock_rule_no dock_tick scan_tick dock_time)
         × (time.new ≡ clock_time (clock_rule dock_tick scan_tick dock_time) time.old) }
 {

@@ -7,8 +7,7 @@ ghost use Rattle.schedule.specs.Schedule.{read_schedule};
 use scan_table::TableRead;
 use schedule::ScheduleRead;
 
-#[unsafe(no_mangle)]
-pub extern "C" fn ymd_check_schedule(bytes: &[u8]) -> u8
+pub fn ymd_check_schedule(bytes: &[u8]) -> u8
     ensures { result ≡ form_no (read_schedule bytes.now) }
 {
     let checked = schedule::check_schedule(bytes);
@@ -18,8 +17,7 @@ pub extern "C" fn ymd_check_schedule(bytes: &[u8]) -> u8
     }
 }
 
-#[unsafe(no_mangle)]
-pub extern "C" fn ymd_check_table(bytes: &[u8]) -> u8
+pub fn ymd_check_table(bytes: &[u8]) -> u8
     ensures { result ≡ form_no (read_table bytes.now) }
 {
     let checked = scan_table::check_table(bytes);

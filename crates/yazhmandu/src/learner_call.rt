@@ -9,8 +9,7 @@ use sets::{AcceptorId, ProposerId};
 
 // Takes an acceptor's acknowledgement of a proposer's number, with the set that it carries. The record is updated, and `learns` is 1 where the learnt set changed and 0 where it did not.
 // 1 for the sizes and the record, 3 for the proposer, the acceptor, the number and the set, 5 where the learner has crashed.
-#[unsafe(no_mangle)]
-pub extern "C" fn ymd_hear(
+pub fn ymd_hear(
     proposers: u64,
     acceptors: u64,
     scans: u64,

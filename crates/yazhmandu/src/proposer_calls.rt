@@ -9,8 +9,7 @@ use layouts::proposers::{is_proposer, proposer_at, put_proposer};
 use sets::AcceptorId;
 
 // Buffers the set of a received scan or of an internal message.
-#[unsafe(no_mangle)]
-pub extern "C" fn ymd_buffer(acceptors: u64, scans: u64, kept: &mut [u8], set: &[u8]) -> u8
+pub fn ymd_buffer(acceptors: u64, scans: u64, kept: &mut [u8], set: &[u8]) -> u8
     ensures { (result ≡ buffer_no acceptors scans kept.old set.now)
         × (kept.new ≡ buffer_record acceptors scans kept.old set.now) }
 {
@@ -29,8 +28,7 @@ pub extern "C" fn ymd_buffer(acceptors: u64, scans: u64, kept: &mut [u8], set: &
 }
 
 // Takes an acceptor's acknowledgement of a number. A late one is ok and does nothing.
-#[unsafe(no_mangle)]
-pub extern "C" fn ymd_acknowledged(
+pub fn ymd_acknowledged(
     acceptors: u64,
     scans: u64,
     kept: &mut [u8],
@@ -58,8 +56,7 @@ pub extern "C" fn ymd_acknowledged(
 }
 
 // Takes an acceptor's rejection of a number, with the set that it sent. A late one is ok and does nothing.
-#[unsafe(no_mangle)]
-pub extern "C" fn ymd_rejected(
+pub fn ymd_rejected(
     acceptors: u64,
     scans: u64,
     kept: &mut [u8],
@@ -94,8 +91,7 @@ pub extern "C" fn ymd_rejected(
 }
 
 // Propose: the number and the set to send stand in the record.
-#[unsafe(no_mangle)]
-pub extern "C" fn ymd_propose(acceptors: u64, scans: u64, kept: &mut [u8]) -> u8
+pub fn ymd_propose(acceptors: u64, scans: u64, kept: &mut [u8]) -> u8
     ensures { (result ≡ call_no acceptors scans kept.old propose_no)
         × (kept.new ≡ call_record acceptors scans kept.old propose_no proposing) }
 {
@@ -112,8 +108,7 @@ pub extern "C" fn ymd_propose(acceptors: u64, scans: u64, kept: &mut [u8]) -> u8
 }
 
 // Refine: the number and the set to send stand in the record.
-#[unsafe(no_mangle)]
-pub extern "C" fn ymd_refine(acceptors: u64, scans: u64, kept: &mut [u8]) -> u8
+pub fn ymd_refine(acceptors: u64, scans: u64, kept: &mut [u8]) -> u8
     ensures { (result ≡ call_no acceptors scans kept.old (refine_no acceptors))
         × (kept.new ≡ call_record acceptors scans kept.old (refine_no acceptors) refining) }
 {
@@ -130,8 +125,7 @@ pub extern "C" fn ymd_refine(acceptors: u64, scans: u64, kept: &mut [u8]) -> u8
 }
 
 // Decide: the decided set stands in the record.
-#[unsafe(no_mangle)]
-pub extern "C" fn ymd_decide(acceptors: u64, scans: u64, kept: &mut [u8]) -> u8
+pub fn ymd_decide(acceptors: u64, scans: u64, kept: &mut [u8]) -> u8
     ensures { (result ≡ call_no acceptors scans kept.old (decide_no acceptors))
         × (kept.new ≡ call_record acceptors scans kept.old (decide_no acceptors) deciding) }
 {

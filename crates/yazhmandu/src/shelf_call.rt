@@ -22,8 +22,7 @@ fn answer_of(table: &[u8], set: &[u8], tag: u64) -> Shelf
     }
 }
 
-#[unsafe(no_mangle)]
-pub extern "C" fn ymd_where_is(table: &[u8], set: &[u8], tag: u64, found: &mut [u64; 4]) -> u8
+pub fn ymd_where_is(table: &[u8], set: &[u8], tag: u64, found: &mut [u64; 4]) -> u8
     ensures { WhereIsCall table.now set.now tag found.old result found.new }
 {
     let answer = answer_of(table, set, tag);

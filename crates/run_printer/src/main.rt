@@ -65,7 +65,7 @@ fn run<R: Read, W: Write>(
 }
 
 fn main(rt: HostRuntime) -> io::Result<()> {
-    let mut input = vec![in rt.alloc(); 0u8; MOST_INPUT]?;
-    let mut output = vec![in rt.alloc(); 0u8; MOST_OUTPUT]?;
+    let mut input = [0u8; MOST_INPUT];
+    let mut output = [0u8; MOST_OUTPUT];
     run(&mut rt.stdin(), &mut rt.stdout(), &mut input, &mut output)
 }

@@ -1,4 +1,4 @@
-// The choice by a test, which the definitions of every crate use, tests joined without a branch, and refusals in their order.
+// Tests joined without a branch, and refusals in their order.
 #![tactic(auto)]
 
 ghost use Rattle.std.specs.Prelude.{◌≡◌, ◌&&◌};

@@ -1,6 +1,6 @@
 -- The clock rule of document 01, "Clock and shelf", over whole numbers.
 use Rattle.std.specs.Prelude.{ℕ, ◌+◌, ◌-◌, ◌%◌, ◌^◌, ◌==◌, nat_le}
-use Rattle.choice.specs.Choice.{if◌then◌else◌}
+use Rattle.std.specs.Prelude.{if◌then◌else◌}
 use Rattle.choice.specs.Tests.{◌unless◌, ◌⨾◌, ok}
 use Rattle.clock.specs.declared.ScanTime.{ScanTime}
 use Rattle.clock.specs.declared.ScanTime.TheVariants.{At, Refused}

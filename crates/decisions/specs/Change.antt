@@ -1,6 +1,6 @@
 -- What one event does to the records that it finds, by value: the contracts of the code's decisions. The model's definitions say the same of a whole run.
 use Rattle.std.specs.Prelude.{Bool, true, false, ℕ, ◌%◌}
-use Rattle.choice.specs.Choice.{if◌then◌else◌}
+use Rattle.std.specs.Prelude.{if◌then◌else◌}
 use Rattle.sizes.specs.declared.Sizes.{Sizes}
 use Rattle.sets.specs.Scans.{only}
 use Rattle.sets.specs.declared.scans.Scans.{Scans}

@@ -1,6 +1,6 @@
 -- The messages that an event sends, as the code describes them: how many there are and what they are made of.
 use Rattle.std.specs.Prelude.{Bool, not, List, [], ◌∷◌, map, ℕ, ◌+◌, ◌-◌, eqb, ltb, get_or}
-use Rattle.choice.specs.Choice.{if◌then◌else◌}
+use Rattle.std.specs.Prelude.{if◌then◌else◌}
 use Rattle.model.specs.Records.{free_slot}
 use Rattle.model.specs.Table.{is_free, Acknowledgement, from, free_slots}
 use Rattle.model.specs.declared.Message.{Message}

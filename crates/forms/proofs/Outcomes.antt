@@ -8,7 +8,7 @@ use native.Mathlib.Nat.{zero-mul, suc-mul}
 use lib.Dec.{eqb, leb}
 use lib.ListN.{length, drop, length-append}
 use borrow.Author.Tests.{eqb-true, eq-eqb, leb-true, le-leb}
-use Rattle.choice.specs.Choice.{if◌then◌else◌}
+use Rattle.std.specs.Prelude.{if◌then◌else◌}
 use Rattle.choice.specs.Tests.{refusal, ◌⨾◌}
 use Rattle.choice.proofs.Tests.{test-passed, rest-passed, no-refusal, rest-unrefused}
 use Rattle.numbers.specs.Coding.{most_of, read_number}

@@ -1,7 +1,7 @@
 -- What written forms are made of: numbers of the coding, one after the other, each tested when read.
 use Rattle.std.specs.Prelude.{Bool, true, ◌&&◌, List, [], ◌∷◌, ◌++◌, ℕ, zero, suc, ◌+◌, eqb, ltb, leb, length, drop, replicate}
 use Rattle.std.proofs.lemmas.List.Edits.{sets}
-use Rattle.choice.specs.Choice.{if◌then◌else◌}
+use Rattle.std.specs.Prelude.{if◌then◌else◌}
 use Rattle.choice.specs.Tests.{◌unless◌, refusal, ◌⨾◌, ok}
 use Rattle.numbers.specs.Coding.{most_of, read_number, form, put_no, put_answer, after_put}
 use Rattle.numbers.specs.declared.Limit.{Limit}

@@ -11,7 +11,7 @@ use lib.Dec.{eqb}
 use lib.ListN.{length, get_or, set, take, drop, replicate, take-append-drop, get_or-append}
 use lib.Seq.{sets, set-get_or, get_or_at, get_or-drop, drop-cons, drop_at, drop-drop, take-suc, take_at, take_all, take-set-lt, length-take-le}
 use borrow.Author.Tests.{leb-true}
-use Rattle.choice.specs.Choice.{if◌then◌else◌}
+use Rattle.std.specs.Prelude.{if◌then◌else◌}
 use Rattle.sets.specs.Scans.{most_scans, fits, first_word, of_first_word}
 use Rattle.sets.specs.declared.scans.Scans.{Scans}
 use Rattle.sets.proofs.ScanLaws.{first-of-first, of-first-word, first-within}

@@ -8,7 +8,7 @@ use lib.ListN.{length, set, drop_of_length-le}
 use lib.Seq.{sets, sets-eq}
 use mir.Val.{bool_byte}
 use borrow.Author.Tests.{ltb-true, leb-true, eqb-true, not-true, not-false}
-use Rattle.choice.specs.Choice.{if◌then◌else◌}
+use Rattle.std.specs.Prelude.{if◌then◌else◌}
 use Rattle.sets.specs.Scans.{most_scans, first_word}
 use Rattle.sets.specs.declared.scans.Scans.{Scans}
 use Rattle.sizes.specs.Sizes.{sizes_in_range}

@@ -7,7 +7,7 @@ use lib.Dec.{eqb, leb}
 use lib.ListN.{length, take, replicate}
 use lib.Seq.{take_at, length-take-le}
 use borrow.Author.Tests.{eq-eqb}
-use Rattle.choice.specs.Choice.{if◌then◌else◌}
+use Rattle.std.specs.Prelude.{if◌then◌else◌}
 use Rattle.sets.specs.Scans.{fits}
 use Rattle.sizes.specs.Sizes.{sizes_in_range}
 use Rattle.model.specs.Records.{unheard}

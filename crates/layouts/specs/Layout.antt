@@ -1,6 +1,6 @@
 -- The bytes of sets and records as the site server keeps them, fixed for good. A record has one written form: reading back what was written gives the record, and writing what was read gives the bytes (proofs/LayoutLaws). Past the end a byte reads 0.
 use Rattle.std.specs.Prelude.{Bool, ◌&&◌, List, [], ◌∷◌, ◌++◌, ℕ, zero, suc, ◌+◌, ◌-◌, ◌*◌, ◌/◌, ◌%◌, min, eqb, ltb, leb, length, get_or, take, replicate}
-use Rattle.choice.specs.Choice.{if◌then◌else◌}
+use Rattle.std.specs.Prelude.{if◌then◌else◌}
 use Rattle.sets.specs.Scans.{fits, first_word, of_first_word}
 use Rattle.sets.specs.declared.scans.Scans.{Scans}
 use Rattle.sets.specs.declared.acceptors.Acceptors.{Acceptors}

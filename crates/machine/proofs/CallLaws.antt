@@ -7,7 +7,7 @@ use mathlib.Core.List.{List, ◌++◌, append-nil}
 use lib.Dec.{eqb}
 use lib.ListN.{length, replicate, drop_of_length-le}
 use borrow.Author.Tests.{eqb-true}
-use Rattle.choice.specs.Choice.{if◌then◌else◌}
+use Rattle.std.specs.Prelude.{if◌then◌else◌}
 use Rattle.sizes.specs.Sizes.{sizes_in_range}
 use Rattle.sizes.specs.declared.Sizes.{Sizes}
 use Rattle.model.specs.Records.{State, fresh, fresh_proposer, fresh_acceptor, fresh_learner, free_slot}

@@ -7,7 +7,7 @@ use Rattle.std.proofs.lemmas.List.{get_or-set_same, set-set}
 use lib.ListN.{length-set}
 use Rattle.model.specs.Records.{unheard}
 use Rattle.model.specs.declared.Heard.{Heard}
-use Rattle.choice.specs.Choice.{if◌then◌else◌}
+use Rattle.std.specs.Prelude.{if◌then◌else◌}
 use Rattle.model.specs.declared.Learner.{Learner}
 use Rattle.decisions.specs.declared.arms.Ear.{Ear}
 use Rattle.machine.specs.Roles.{place_of, ear_of, put_ear}

@@ -9,7 +9,7 @@ use lib.Dec.{eqb, leb}
 use lib.ListN.{length, get_or, set, drop, replicate, length-append, length-set, replicate-append-replicate, get_or-append}
 use lib.Seq.{set-append_left}
 use borrow.Author.Tests.{not-true}
-use Rattle.choice.specs.Choice.{if◌then◌else◌}
+use Rattle.std.specs.Prelude.{if◌then◌else◌}
 use Rattle.sizes.specs.Sizes.{sizes_in_range}
 use Rattle.sizes.specs.Events.{most_events}
 use Rattle.sizes.proofs.SizeLaws.{bounds}

@@ -8,7 +8,7 @@ use mathlib.Core.Bool.{Bool, true, false, not}
 use mathlib.Core.List.{List, [], ◌∷◌, map}
 use lib.Dec.{T as Holds}
 use lib.ListN.{length, set, drop}
-use Rattle.choice.specs.Choice.{if◌then◌else◌}
+use Rattle.std.specs.Prelude.{if◌then◌else◌}
 use Rattle.choice.proofs.Tests.{and_l, and_r}
 use Rattle.model.specs.Table.{is_free, free_slots, place, post, from}
 use Rattle.model.specs.Ranges.{all}

@@ -6,7 +6,7 @@ use mathlib.Core.Bool.{Bool, true, false, not, ◌&&◌}
 use mathlib.Core.List.{List, [], ◌∷◌}
 use lib.Dec.{T as Holds, ltb, ltb→lt, nltb→le}
 use lib.ListN.{length, get_or, drop, drop_of_length-le}
-use Rattle.choice.specs.Choice.{if◌then◌else◌}
+use Rattle.std.specs.Prelude.{if◌then◌else◌}
 use Rattle.model.specs.Records.{free_slot}
 use Rattle.model.specs.Table.{is_free, free_slots}
 use Rattle.model.specs.declared.Message.{Message}

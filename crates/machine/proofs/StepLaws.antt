@@ -7,7 +7,7 @@ use native.Mathlib.Omega.{arith}
 use lib.Dec.{T as Holds, eqb, leb, eqb-suc-zero}
 use lib.ListN.{length, get_or, set}
 use borrow.Author.Tests.{lt-ltb, leb-true, leb-false, eq-eqb, ne_eqb}
-use Rattle.choice.specs.Choice.{if◌then◌else◌}
+use Rattle.std.specs.Prelude.{if◌then◌else◌}
 use Rattle.sizes.specs.declared.Sizes.{Sizes}
 use Rattle.model.specs.Records.{State, free_slot}
 use Rattle.choice.specs.Tests.{◌unless◌, ◌⨾◌, refusal, ok}

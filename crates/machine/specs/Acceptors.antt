@@ -1,6 +1,6 @@
 -- One acceptor's call: its tests in their order, its reply, and the record that it leaves.
 use Rattle.std.specs.Prelude.{ℕ, eqb}
-use Rattle.choice.specs.Choice.{if◌then◌else◌}
+use Rattle.std.specs.Prelude.{if◌then◌else◌}
 use Rattle.choice.specs.Tests.{◌unless◌, ◌⨾◌, ok}
 use Rattle.sets.specs.Scans.{fits}
 use Rattle.sets.specs.declared.scans.Scans.{Scans}

@@ -1,6 +1,6 @@
 -- What the calls promise, of the records that a caller lends: fresh, one step, a run, and a run from fresh on records of its own.
 use Rattle.std.specs.Prelude.{◌≡◌, Bool, ◌&&◌, List, map, ℕ, ◌+◌, ◌*◌, eqb, leb, length, get_or}
-use Rattle.choice.specs.Choice.{if◌then◌else◌}
+use Rattle.std.specs.Prelude.{if◌then◌else◌}
 use Rattle.sizes.specs.Sizes.{sizes_in_range}
 use Rattle.sizes.specs.Events.{most_events}
 use Rattle.sizes.specs.declared.Sizes.{Sizes}

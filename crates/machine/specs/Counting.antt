@@ -1,6 +1,6 @@
 -- How the calls test what they are given and count what they do: contracts of private functions.
 use Rattle.std.specs.Prelude.{Bool, ◌&&◌, ℕ, eqb, leb}
-use Rattle.choice.specs.Choice.{if◌then◌else◌}
+use Rattle.std.specs.Prelude.{if◌then◌else◌}
 use Rattle.choice.specs.Tests.{◌unless◌, ◌⨾◌, ok}
 use Rattle.sizes.specs.Sizes.{sizes_in_range}
 use Rattle.sizes.specs.Events.{most_events}

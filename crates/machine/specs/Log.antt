@@ -1,7 +1,7 @@
 -- The log of a run: how an answer is written as numbers, and how it is read back.
 use Rattle.std.specs.Prelude.{List, [], ◌∷◌, ◌++◌, map, ℕ, ◌+◌, ◌*◌, ◌%◌, eqb, ltb, length, drop, get_or}
 use Rattle.std.proofs.lemmas.List.Edits.{sets}
-use Rattle.choice.specs.Choice.{if◌then◌else◌}
+use Rattle.std.specs.Prelude.{if◌then◌else◌}
 use Rattle.model.specs.Table.{from}
 use Rattle.model.specs.declared.Answer.{Answer}
 use Rattle.model.specs.declared.Answer.TheVariants.{Ok, Learnt, Decided, Refused}

@@ -1,6 +1,6 @@
 -- The table searched for free slots, as the code searches it: contracts of private functions.
 use Rattle.std.specs.Prelude.{◌≡◌, Bool, true, ◌&&◌, List, [], ◌∷◌, ℕ, suc, ◌+◌, ◌-◌, ◌<◌, ltb, length, drop}
-use Rattle.choice.specs.Choice.{if◌then◌else◌}
+use Rattle.std.specs.Prelude.{if◌then◌else◌}
 use Rattle.sets.specs.Scans.{empty}
 use Rattle.model.specs.Table.{is_free}
 use Rattle.model.specs.Ranges.{all}

@@ -1,6 +1,6 @@
 -- One event on the records that a caller lends, as the code does it: fetch, decide, write back. Contracts of private functions.
 use Rattle.std.specs.Prelude.{◌≡◌, true, List, ℕ, ◌≤◌, eqb, ltb, length, get_or, set}
-use Rattle.choice.specs.Choice.{if◌then◌else◌}
+use Rattle.std.specs.Prelude.{if◌then◌else◌}
 use Rattle.sizes.specs.Sizes.{sizes_in_range}
 use Rattle.sizes.specs.declared.Sizes.{Sizes}
 use Rattle.model.specs.Records.{fresh_proposer, fresh_acceptor, fresh_learner, free_slot}

@@ -1,6 +1,6 @@
 // The records that a caller lends: one read or stored, all tested, the first of them made fresh; and the table of messages searched and posted to.
 ghost use Rattle.std.specs.Prelude.{◌≡◌, ◌++◌, ◌<◌, ◌≤◌, ltb, length, get_or, set, drop, replicate};
-ghost use Rattle.choice.specs.Choice.{if◌then◌else◌};
+ghost use Rattle.std.specs.Prelude.{if◌then◌else◌};
 ghost use Rattle.model.specs.Records.{fresh_proposer, fresh_acceptor, fresh_learner, free_slot, unheard};
 ghost use Rattle.model.specs.Ranges.{all, proposer_in_range, acceptor_in_range, learner_in_range, message_in_range};
 ghost use Rattle.model.specs.Table.{post};

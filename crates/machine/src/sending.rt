@@ -1,6 +1,6 @@
 // The messages that an event sends, one by one, of what describes them.
 ghost use Rattle.std.specs.Prelude.{◌≡◌, ◌<◌, ◌-◌, eqb};
-ghost use Rattle.choice.specs.Choice.{if◌then◌else◌};
+ghost use Rattle.std.specs.Prelude.{if◌then◌else◌};
 ghost use Rattle.decisions.specs.Sending.{addressed_to, skipping, to_proposer, item_of};
 
 use decisions::sending::Send;

@@ -4,7 +4,7 @@ use mathlib.Core.Bool.{true}
 use Prim.Native.Nat.{ℕ, ◌<◌}
 use lib.ListN.{set}
 use borrow.Author.Tests.{eqb-true, ltb-true}
-use Rattle.choice.specs.Choice.{if◌then◌else◌}
+use Rattle.std.specs.Prelude.{if◌then◌else◌}
 use Rattle.sets.specs.Scans.{◌⊆◌, strictly_within}
 use Rattle.sets.specs.Acceptors.{is_majority}
 use Rattle.sets.specs.declared.scans.Scans.{Scans}

@@ -1,6 +1,6 @@
 -- Document 01, "Events" and "Refusal numbers": for each event what it does, and its tests in their order.
 use Rattle.std.specs.Prelude.{Bool, true, false, not, ◌&&◌, List, [], ◌∷◌, map, ℕ, eqb, ltb, leb, length, get_or}
-use Rattle.choice.specs.Choice.{if◌then◌else◌}
+use Rattle.std.specs.Prelude.{if◌then◌else◌}
 use Rattle.sizes.specs.declared.Sizes.{Sizes}
 use Rattle.sets.specs.Scans.{only}
 use Rattle.model.specs.declared.Proposer.{Proposer}

@@ -1,6 +1,6 @@
 -- Document 01, "Events": what each rule makes of one party's record, and when it is enabled.
 use Rattle.std.specs.Prelude.{Bool, true, false, not, ◌&&◌, ℕ, ◌+◌, eqb, ltb, set}
-use Rattle.choice.specs.Choice.{if◌then◌else◌}
+use Rattle.std.specs.Prelude.{if◌then◌else◌}
 use Rattle.sets.specs.Scans.{empty, ◌∪◌, within, strictly_within, is_empty}
 use Rattle.sets.specs.Acceptors.{none, with_one, together, size, is_majority}
 use Rattle.sets.specs.declared.scans.Scans.{Scans}

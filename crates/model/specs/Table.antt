@@ -1,6 +1,6 @@
 -- Document 01, "Records" and "Events": messages, and the table that they are sent into.
 use Rattle.std.specs.Prelude.{Bool, List, [], ◌∷◌, ℕ, zero, suc, eqb}
-use Rattle.choice.specs.Choice.{if◌then◌else◌}
+use Rattle.std.specs.Prelude.{if◌then◌else◌}
 use Rattle.sets.specs.declared.scans.Scans.{Scans}
 use Rattle.model.specs.declared.Message.{Message}
 

@@ -10,7 +10,7 @@ use lib.Dec.{ltb, lit<}
 use lib.ListN.{length, get_or, set, length-set}
 use lib.Seq.{sets}
 use borrow.Author.Tests.{ltb-true, lt-ltb, le-ltb}
-use Rattle.choice.specs.Choice.{if◌then◌else◌}
+use Rattle.std.specs.Prelude.{if◌then◌else◌}
 use Rattle.numbers.specs.Coding.{form_in, form, put_end}
 use Rattle.numbers.proofs.Ends.{Ends, sets-out, end-cons}
 

@@ -10,7 +10,7 @@ use lib.Dec.{ltb, lit≤}
 use lib.ListN.{length, drop, get_or, drop_of_length-le}
 use lib.Seq.{drop-cons}
 use borrow.Author.Tests.{lt-ltb, le-ltb}
-use Rattle.choice.specs.Choice.{if◌then◌else◌}
+use Rattle.std.specs.Prelude.{if◌then◌else◌}
 use Rattle.numbers.specs.declared.Limit.{Limit}
 use Rattle.numbers.specs.declared.Limit.TheVariants.{Schedule, Table}
 use Rattle.numbers.specs.Coding.{groups_of, refused_read, last_group, groups_from}

@@ -9,7 +9,7 @@ use lib.Dec.{eqb, leb}
 use lib.ListN.{length, get_or, set}
 use lib.Seq.{sets, length-sets, get_or-set_other}
 use borrow.Author.Tests.{leb-true, leb-false, lt-leb, le-leb, eqb-true, eqb-false, eq-eqb, ne_eqb}
-use Rattle.choice.specs.Choice.{if◌then◌else◌}
+use Rattle.std.specs.Prelude.{if◌then◌else◌}
 use Rattle.choice.specs.Tests.{◌unless◌, refusal, ◌⨾◌, ok}
 use Rattle.choice.proofs.Tests.{stands}
 use Rattle.numbers.specs.declared.Refusal.{Refusal}

@@ -2,7 +2,7 @@
 #![tactic(auto)]
 
 ghost use Rattle.std.specs.Prelude.{◌≡◌, ◌++◌, ◌+◌, ◌*◌, ◌≤◌, eqb, length, true};
-ghost use Rattle.choice.specs.Choice.{if◌then◌else◌};
+ghost use Rattle.std.specs.Prelude.{if◌then◌else◌};
 ghost use Rattle.numbers.specs.Coding.{written_no};
 ghost use Rattle.text.specs.Words.{bytes};
 ghost use Rattle.text.specs.Digits.{decimal};

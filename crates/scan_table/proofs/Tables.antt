@@ -8,7 +8,7 @@ use lib.Dec.{eqb}
 use lib.ListN.{length}
 use lib.Seq.{sets}
 use borrow.Author.Tests.{eqb-true}
-use Rattle.choice.specs.Choice.{if◌then◌else◌}
+use Rattle.std.specs.Prelude.{if◌then◌else◌}
 use Rattle.choice.proofs.Tests.{test-passed}
 use Rattle.sizes.specs.Sizes.{scans_in_range}
 use Rattle.numbers.specs.Coding.{read_number, form}

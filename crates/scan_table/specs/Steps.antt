@@ -1,6 +1,6 @@
 -- What the reader does with one number after another: the contracts of its private steps.
 use Rattle.std.specs.Prelude.{List, ℕ, eqb}
-use Rattle.choice.specs.Choice.{if◌then◌else◌}
+use Rattle.std.specs.Prelude.{if◌then◌else◌}
 use Rattle.numbers.specs.Coding.{read_number}
 use Rattle.numbers.specs.declared.Limit.TheVariants.{Table}
 use Rattle.numbers.specs.declared.Read.{Read}

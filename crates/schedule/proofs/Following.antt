@@ -9,7 +9,7 @@ use lib.Dec.{eqb, ltb}
 use lib.ListN.{length, take, drop, replicate, length-append, take-append-drop}
 use lib.Seq.{take_all, length-take-le}
 use borrow.Author.Tests.{ltb-true, ltb-false, lt-ltb, eq-eqb}
-use Rattle.choice.specs.Choice.{if◌then◌else◌}
+use Rattle.std.specs.Prelude.{if◌then◌else◌}
 use Rattle.numbers.specs.Coding.{groups_of}
 use Rattle.numbers.specs.declared.Limit.TheVariants as limit
 use Rattle.numbers.specs.declared.Refusal.{Refusal}

@@ -1,6 +1,6 @@
 -- What the reader does in one step after another: the contracts of its private functions.
 use Rattle.std.specs.Prelude.{List, ℕ, ◌*◌, eqb, length}
-use Rattle.choice.specs.Choice.{if◌then◌else◌}
+use Rattle.std.specs.Prelude.{if◌then◌else◌}
 use Rattle.numbers.specs.declared.Limit.TheVariants as limit
 use Rattle.forms.specs.Forms.{Outcome, got, refused, plain, place_of, ended_at}
 use Rattle.forms.specs.declared.Place.{Place}

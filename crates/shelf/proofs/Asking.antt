@@ -10,7 +10,7 @@ use lib.Dec.{eqb}
 use lib.ListN.{length, drop, get_or, get_or-append}
 use lib.Seq.{sets, sets-eq}
 use borrow.Author.Tests.{lt-leb, le-leb, eqb-true, ne_eqb}
-use Rattle.choice.specs.Choice.{if◌then◌else◌}
+use Rattle.std.specs.Prelude.{if◌then◌else◌}
 use Rattle.sets.specs.Scans.{most_scans, fits}
 use Rattle.sets.specs.declared.scans.Scans.{Scans}
 use Rattle.numbers.specs.declared.Refusal.{Refusal}

@@ -1,6 +1,6 @@
 -- The shelf question of document 01, "Clock and shelf".
 use Rattle.std.specs.Prelude.{Bool, ◌&&◌, ◌||◌, List, [], ◌∷◌, ℕ, zero, suc, eqb, ltb}
-use Rattle.choice.specs.Choice.{if◌then◌else◌}
+use Rattle.std.specs.Prelude.{if◌then◌else◌}
 use Rattle.choice.specs.Tests.{◌unless◌, refusal, ◌⨾◌, ok}
 use Rattle.sets.specs.Scans.{holds, fits}
 use Rattle.sets.specs.declared.scans.Scans.{Scans}

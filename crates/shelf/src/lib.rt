@@ -2,7 +2,7 @@
 #![tactic(auto)]
 
 ghost use Rattle.std.specs.Prelude.{◌≡◌, ◌*◌, ◌≤◌, length};
-ghost use Rattle.choice.specs.Choice.{if◌then◌else◌};
+ghost use Rattle.std.specs.Prelude.{if◌then◌else◌};
 ghost use Rattle.scan_table.specs.Table.{read_table};
 ghost use Rattle.shelf.specs.Shelf.{comes_before, seen_at, is_candidate, better, newest, ask, where_is, where_is_no, where_is_written, where_is_written_no, asked_no};
 

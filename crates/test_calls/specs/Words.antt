@@ -1,6 +1,6 @@
 -- How the calls pass sets, limits, sizes and tests as numbers.
 use Rattle.std.specs.Prelude.{Bool, true, false, List, ℕ, eqb, get_or}
-use Rattle.choice.specs.Choice.{if◌then◌else◌}
+use Rattle.std.specs.Prelude.{if◌then◌else◌}
 use Rattle.sets.specs.Scans.{of_first_word}
 use Rattle.sets.specs.declared.scans.Scans.{Scans}
 use Rattle.sets.specs.declared.acceptors.Acceptors.{Acceptors}

@@ -8,7 +8,7 @@ use native.Mathlib.Nat.{pow-suc, div-lt_iff_lt-mul}
 use lib.Dec.{ltb, lit<}
 use lib.ListN.{length, length-append}
 use borrow.Author.Tests.{lt-ltb, le-ltb}
-use Rattle.choice.specs.Choice.{if◌then◌else◌}
+use Rattle.std.specs.Prelude.{if◌then◌else◌}
 use Rattle.text.specs.Digits.{digit, decimal_of, hex_of}
 
 -- ---- decimal numbers

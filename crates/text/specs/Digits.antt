@@ -1,6 +1,6 @@
 -- Numbers as digits, the highest first.
 use Rattle.std.specs.Prelude.{List, [], ◌∷◌, ◌++◌, ℕ, zero, suc, ◌+◌, ◌/◌, ◌%◌, ltb}
-use Rattle.choice.specs.Choice.{if◌then◌else◌}
+use Rattle.std.specs.Prelude.{if◌then◌else◌}
 
 -- the byte of a digit: 0 to 9, then a to f
 abbrev pub digit : ℕ → ℕ

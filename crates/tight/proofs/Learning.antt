@@ -6,7 +6,7 @@ use Prim.Native.Nat.{ℕ, zero, suc}
 use lib.Dec.{eqb}
 use lib.Seq.{get_or-set_other}
 use borrow.Author.Tests.{eqb-true, eqb-false}
-use Rattle.choice.specs.Choice.{if◌then◌else◌}
+use Rattle.std.specs.Prelude.{if◌then◌else◌}
 use Rattle.choice.proofs.Tests.{if-ind, and_r}
 use Rattle.sizes.specs.declared.Sizes.{Sizes}
 use Rattle.sets.specs.declared.scans.Scans.{Scans}

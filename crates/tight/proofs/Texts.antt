@@ -8,7 +8,7 @@ use native.Mathlib.Omega.{arith}
 use lib.Dec.{eqb, ltb}
 use lib.ListN.{length, get_or, drop, length-map}
 use borrow.Author.Tests.{ltb-true, lt-ltb, ne_eqb}
-use Rattle.choice.specs.Choice.{if◌then◌else◌}
+use Rattle.std.specs.Prelude.{if◌then◌else◌}
 use Rattle.choice.proofs.Tests.{if-ind}
 use Rattle.text.specs.Words.{bytes}
 use Rattle.text.specs.Digits.{digit, decimal_of, decimal, hex_of}

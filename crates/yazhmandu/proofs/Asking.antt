@@ -8,7 +8,7 @@ use native.Mathlib.Omega.{arith}
 use lib.Dec.{eqb}
 use lib.ListN.{length, get_or}
 use borrow.Author.Tests.{eq-eqb}
-use Rattle.choice.specs.Choice.{if◌then◌else◌}
+use Rattle.std.specs.Prelude.{if◌then◌else◌}
 use Rattle.numbers.specs.declared.Refusal.{Refusal}
 use Rattle.forms.specs.Forms.{FormRead, read_as, unread}
 use Rattle.sizes.specs.declared.Sizes.{Sizes}

@@ -9,7 +9,7 @@ use lib.ListN.{set}
 use lib.Seq.{sets}
 use mir.Val.{bool_byte}
 use borrow.Author.Tests.{ltb-true}
-use Rattle.choice.specs.Choice.{if◌then◌else◌}
+use Rattle.std.specs.Prelude.{if◌then◌else◌}
 use Rattle.sets.specs.declared.scans.Scans.{Scans}
 use Rattle.model.specs.Records.{heard_of}
 use Rattle.model.specs.Rules.{hearing, teaches, learns, newly_heard, listening}

@@ -5,7 +5,7 @@ use mathlib.Core.Path.{◌≡◌, sym, ◌∙◌}
 use Prim.Native.Nat.{ℕ}
 use lib.Dec.{eqb}
 use lib.Seq.{sets}
-use Rattle.choice.specs.Choice.{if◌then◌else◌}
+use Rattle.std.specs.Prelude.{if◌then◌else◌}
 use Rattle.model.specs.declared.Proposer.{Proposer}
 use Rattle.model.proofs.Enabled.{is_zero, not-zero}
 use Rattle.layouts.specs.Layout.{is_proposer, proposer_at, proposer_bytes}

@@ -1,6 +1,6 @@
 -- What each call gives, and leaves in the lent bytes, by what they held at entry.
 use Rattle.std.specs.Prelude.{List, ℕ, eqb, ltb, length}
-use Rattle.choice.specs.Choice.{if◌then◌else◌}
+use Rattle.std.specs.Prelude.{if◌then◌else◌}
 use Rattle.forms.specs.Forms.{FormRead, read_as, unread}
 use Rattle.scan_table.specs.Table.{read_table}
 use Rattle.shelf.specs.Shelf.{where_is_written, refused_shelf}

@@ -6,10 +6,9 @@ use Prim.Native.Nat.{ℕ, zero, suc, ◌+◌, ◌<◌, ◌≤◌}
 use native.Mathlib.Nat.{not-suc-le-zero}
 use native.Mathlib.Numerals.{add-one, sub-one}
 use native.Mathlib.Omega.{arith}
-use lib.Dec.{eqb, ltb, eqb-suc-zero}
+use lib.Dec.{eqb, eqb-suc-zero}
 use lib.ListN.{length, length-map}
 use borrow.Author.Tests.{lt-ltb, le-ltb, eq-eqb, ne_eqb, eqb-true, eqb-false}
-use Rattle.std.specs.Prelude.{if◌then◌else◌}
 use Rattle.sets.specs.declared.scans.Scans.{Scans}
 use Rattle.model.specs.Table.{Internal, Proposal, Acknowledgement, Announcement, from, every_one, without, every_other}
 use Rattle.model.specs.declared.Message.{Message}

@@ -1,22 +1,21 @@
 -- The laws of the pieces of written forms. Assumes nothing.
 use mathlib.Core.Path.{◌≡◌, refl, sym, ap, ◌∙◌}
-use mathlib.Core.Bool.{Bool, true, false}
+use mathlib.Core.Bool.{true}
 use mathlib.Core.List.{List, [], ◌∷◌, ◌++◌, map, append_assoc, append-nil}
 use Prim.Native.Nat.{ℕ, zero, suc, ◌+◌, ◌*◌, ◌≤◌}
 use native.Mathlib.Omega.{arith}
 use native.Mathlib.Nat.{mul-suc, add-zero}
-use lib.Dec.{leb, ltb}
+use lib.Dec.{leb}
 use lib.ListN.{length, take, drop, length-append}
 use lib.Seq.{take-add, drop-drop, take_all}
-use borrow.Author.Tests.{ltb-false, leb-true, le-leb}
-use Rattle.std.specs.Prelude.{if◌then◌else◌}
+use borrow.Author.Tests.{leb-true, le-leb}
 use Rattle.numbers.specs.Coding.{groups_of, most_of, read_number, form}
 use Rattle.numbers.specs.declared.Limit.{Limit}
 use Rattle.numbers.specs.declared.Read.TheVariants as read
 use Rattle.numbers.proofs.CodingLaws.{written-reads, read-form, form-groups, form-bytes}
-use Rattle.forms.specs.Forms.{Outcome, got, refused, refused_with, Test, test_read, prepend, row, rows, then_numbers, numbers_at, forms, row_no, rows_no, as_read, all_within}
+use Rattle.forms.specs.Forms.{got, Test, test_read, prepend, row, rows, then_numbers, numbers_at, forms, row_no, rows_no, as_read, all_within}
 use Rattle.choice.proofs.Tests.{and_l, and_r}
-use Rattle.forms.proofs.Outcomes.{refused-got, row_cons, times, rows_row, times-length, times-map, rows-no-row, row-no-cons, cons-row-no, as-read-zero, zero-as-read}
+use Rattle.forms.proofs.Outcomes.{row_cons, times, rows_row, times-length, times-map, rows-no-row, row-no-cons, cons-row-no, as-read-zero, zero-as-read}
 pub use Rattle.numbers.proofs.CodingLaws.{Bytes}
 pub use Rattle.forms.proofs.Outcomes.{Both, then-got, then-then, then_same, Passed, test-got}
 

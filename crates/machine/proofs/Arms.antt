@@ -2,7 +2,7 @@
 -- Assumes nothing.
 use mathlib.Core.Path.{◌≡◌, refl, sym, ◌∙◌, ap, subst}
 use mathlib.Core.Bool.{Bool, true, false}
-use mathlib.Core.List.{List, [], ◌∷◌}
+use mathlib.Core.List.{List, []}
 use Prim.Native.Nat.{ℕ, ◌-◌, ◌<◌}
 use native.Mathlib.Omega.{arith}
 use lib.Dec.{T as Holds, eqb}
@@ -29,7 +29,7 @@ use Rattle.decisions.proofs.Deciding.{told-change, needs-none, says-as}
 use Rattle.decisions.specs.declared.arms.Decision.{Decision}
 use Rattle.machine.specs.Slots.{Ready}
 use Rattle.machine.specs.Stepping.{index_in, party_of, reply_of}
-use Rattle.machine.specs.Roles.{proposer_at, acceptor_at, learner_at, decision_at, finished_at, step_at}
+use Rattle.machine.specs.Roles.{proposer_at, acceptor_at, learner_at, finished_at, step_at}
 use Rattle.machine.proofs.Readiness.{ready-after}
 use Rattle.machine.proofs.Roles.{not-of, quiet-finished}
 

@@ -1,9 +1,9 @@
 -- A learner by one place: what an event leaves of it, its answer and its slot are the step's.
 --     ear-arm      where a learner's arm takes an event
 -- Assumes nothing.
-use mathlib.Core.Path.{◌≡◌, refl, sym, ◌∙◌, ap, subst}
+use mathlib.Core.Path.{◌≡◌, refl, sym, ◌∙◌, ap}
 use mathlib.Core.Bool.{Bool, true, false}
-use mathlib.Core.List.{List, [], ◌∷◌}
+use mathlib.Core.List.{List, []}
 use Prim.Native.Nat.{ℕ, ◌-◌}
 use native.Mathlib.Omega.{arith}
 use lib.Dec.{T as Holds, eqb}
@@ -26,7 +26,6 @@ use Rattle.model.specs.declared.Answer.TheVariants.{Ok, Learnt, Refused}
 use Rattle.decisions.specs.declared.decide.Change.{Change}
 use Rattle.decisions.specs.Sending.{silence, items_of, lacking}
 use Rattle.decisions.specs.Change.{heard_by, stopping, delivering_of, crashing_of, change_of, learner_after, slot_after, learner_answer, answer_of}
-use Rattle.decisions.specs.Refusals.{test_no}
 use Rattle.decisions.proofs.Items.{items-silence}
 use Rattle.decisions.specs.declared.arms.Decision.{Decision}
 use Rattle.machine.specs.Stepping.{index_in, party_of, reply_of}
@@ -34,7 +33,7 @@ use Rattle.decisions.specs.Arms.{need_of, decide_of, refused_of, finish_of}
 use Rattle.machine.proofs.Readiness.{same}
 use Rattle.decisions.specs.declared.arms.Ear.{Ear}
 use Rattle.decisions.specs.declared.arms.Listened.{Listened}
-use Rattle.machine.specs.Roles.{finished_at, decision_at, step_at, ear_of, put_ear}
+use Rattle.machine.specs.Roles.{finished_at, step_at, ear_of, put_ear}
 use Rattle.decisions.specs.Arms.{arm_of_kind, arm_of_role, arm_at, arm_of, ear_at, hears, ear_says, ear_no, listen_of}
 
 -- ---- the two events of a learner

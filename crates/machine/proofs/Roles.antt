@@ -8,11 +8,11 @@ use mathlib.Core.Bool.{Bool, true, false, not}
 use mathlib.Core.List.{List, [], ◌∷◌}
 use Prim.Native.Nat.{ℕ}
 use lib.Dec.{T as Holds, eqb, eqb→eq}
-use lib.ListN.{length, get_or, set}
+use lib.ListN.{get_or, set}
 use Rattle.std.specs.Prelude.{if◌then◌else◌}
 use Rattle.sets.specs.declared.scans.Scans.{Scans}
 use Rattle.sizes.specs.declared.Sizes.{Sizes}
-use Rattle.model.specs.Records.{Kind, free, internal, proposal, acknowledgement, rejection, announcement, no_kind, kind_of, Role, a_proposer, an_acceptor, a_learner, no_role, role_of, addressed, fresh_proposer, fresh_acceptor, fresh_learner, free_slot}
+use Rattle.model.specs.Records.{Kind, free, internal, proposal, acknowledgement, rejection, announcement, no_kind, kind_of, Role, a_proposer, an_acceptor, a_learner, no_role, role_of, addressed, fresh_proposer, fresh_acceptor, fresh_learner}
 use Rattle.model.specs.Table.{post}
 use Rattle.model.specs.Rules.{listening, crashed_learner}
 use Rattle.model.specs.Events.{Code, receive, deliver, drop, duplicate, propose, refine, decide, crash, no_code, code_of, exists}
@@ -22,10 +22,10 @@ use Rattle.model.specs.declared.Learner.{Learner}
 use Rattle.model.specs.declared.Message.{Message}
 use Rattle.model.specs.declared.Event.{Event}
 use Rattle.model.specs.declared.Answer.{Answer}
-use Rattle.model.specs.declared.Answer.TheVariants.{Ok, Refused}
+use Rattle.model.specs.declared.Answer.TheVariants.{Refused}
 use Rattle.decisions.specs.declared.decide.Change.{Change}
 use Rattle.decisions.specs.Sending.{items_of, lacking}
-use Rattle.decisions.specs.Change.{unchanged, answering_of, delivering_of, crashing_of, receiving_of, change_of, learner_after, slot_after, answer_of}
+use Rattle.decisions.specs.Change.{answering_of, delivering_of, crashing_of, receiving_of, change_of, learner_after, slot_after, answer_of}
 use Rattle.decisions.specs.Refusals.{alive_in, slot_no, party_no, test_no}
 use Rattle.choice.specs.Tests.{◌unless◌, ◌⨾◌, refusal, ok}
 use Rattle.decisions.specs.declared.arms.Decision.{Decision}

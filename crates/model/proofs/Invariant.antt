@@ -4,7 +4,6 @@ use mathlib.Core.Logic.{inl, inr}
 use mathlib.Core.Bool.{true}
 use Prim.Native.Nat.{ℕ, ◌<◌}
 use lib.Dec.{eqb, ltb}
-use lib.ListN.{set}
 use borrow.Author.Tests.{eqb-true}
 use Rattle.sets.specs.Scans.{empty, ◌∪◌, ◌∈◌}
 use Rattle.sets.specs.Acceptors.{none, with_one, ◌among◌, fits_run, is_majority}

@@ -1,6 +1,6 @@
 -- The laws of the scan table. Assumes nothing.
 use mathlib.Core.Path.{◌≡◌, refl, sym, ap, ◌∙◌}
-use mathlib.Core.List.{List, [], ◌∷◌, ◌++◌, append-nil}
+use mathlib.Core.List.{List, [], ◌++◌, append-nil}
 use mathlib.Core.Logic.{◌⊎◌, inl, inr, ⊎_elim, ⊎_map}
 use Prim.Native.Nat.{ℕ, ◌+◌, ◌-◌, ◌*◌, ◌^◌, ◌<◌, ◌≤◌}
 use native.Mathlib.Omega.{arith}
@@ -17,7 +17,7 @@ use Rattle.numbers.specs.declared.Read.TheVariants as number
 use Rattle.numbers.specs.declared.Written.TheVariants as written
 use Rattle.numbers.proofs.Puts.{put-refusals, put_refused, put_next, put-stays}
 use Rattle.numbers.proofs.CodingLaws.{Bytes, written-reads}
-use Rattle.forms.specs.Forms.{Test, rows, FormRead, read_as, unread, whole, into_room, after_room, forms, row_no, rows_no}
+use Rattle.forms.specs.Forms.{Test, rows, read_as, unread, whole, into_room, after_room, forms, row_no, rows_no}
 use Rattle.forms.proofs.FormLaws.{rows-reads, rows-forms, stands_one, stands-append, stands-whole}
 use Rattle.forms.proofs.Rooms as rooms
 use Rattle.forms.proofs.Rooms.{room-refusals, room-refused, room-filled, room-stays}

@@ -1,13 +1,10 @@
 -- `forms::all_within` meets its contract. The loop's invariant: all numbers are within the limit where those are that are left to test. The
-use mathlib.Core.Path.{◌≡◌, refl, sym, ◌∙◌}
-use Prim.Native.Nat.{◌≤◌, ◌-◌}
+use mathlib.Core.Path.{refl, sym, ◌∙◌}
 use native.Mathlib.Omega.{arith}
-use lib.ListN.{length, drop, get_or}
+use lib.ListN.{get_or}
 use borrow.Author.Tests.{le-leb, lt-leb}
 use borrow.Author.Rules.{rules}
 use Rattle.numbers.specs.Coding.{most_of}
-use Rattle.numbers.specs.declared.Limit.{Limit}
-use Rattle.forms.specs.Forms.{all_within}
 use Rattle.forms.proofs.Steps.{within-next, within_none}
 use Rattle.forms.proofs.all_within.Goals as goal
 

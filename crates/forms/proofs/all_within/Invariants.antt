@@ -1,13 +1,9 @@
-use mathlib.Core.Path.{◌≡◌, refl, sym, ◌∙◌}
+use mathlib.Core.Path.{◌≡◌}
 use Prim.Native.Nat.{◌≤◌, ◌-◌}
-use native.Mathlib.Omega.{arith}
-use lib.ListN.{length, drop, get_or}
-use borrow.Author.Tests.{le-leb, lt-leb}
-use borrow.Author.Rules.{rules}
+use lib.ListN.{length, drop}
 use Rattle.numbers.specs.Coding.{most_of}
 use Rattle.numbers.specs.declared.Limit.{Limit}
 use Rattle.forms.specs.Forms.{all_within}
-use Rattle.forms.proofs.Steps.{within-next, within_none}
 use Rattle.forms.proofs.all_within.Given as goal
 
 -- measure is how many are left. Assumes nothing.

@@ -1,6 +1,5 @@
 -- `forms::ended` meets its contract. Assumes nothing.
 use borrow.Author.Tests.{lt-ltb, le-ltb}
-use borrow.Author.Rules.{rules}
 use Rattle.forms.proofs.ended.Goals as goal
 
 pub returns-then-next-length : goal.returns-then-next-length

@@ -1,12 +1,8 @@
-use mathlib.Core.Path.{◌≡◌, refl, sym, ◌∙◌}
-use Prim.Native.Nat.{◌≤◌, ◌-◌, ◌+◌}
-use native.Mathlib.Omega.{arith}
+use mathlib.Core.Path.{◌≡◌}
+use Prim.Native.Nat.{◌≤◌, ◌-◌}
 use lib.Dec.{leb}
 use lib.ListN.{length, drop}
-use borrow.Author.Tests.{le-leb, lt-leb}
-use borrow.Author.Rules.{rules}
 use Rattle.forms.specs.Forms.{forms}
-use Rattle.forms.proofs.Steps.{forms-next-length, forms-none, leb-less}
 use Rattle.forms.proofs.fit_in.Given as goal
 
 -- is left. The measure is how many numbers are left. Assumes nothing.

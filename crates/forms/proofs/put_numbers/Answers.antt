@@ -1,9 +1,6 @@
 -- `forms::put_numbers` meets its contract. The loop's invariant: the numbers that are left, put from `next` on, make the whole. The measure is how
-use Prim.Native.Nat.{◌-◌}
 use native.Mathlib.Omega.{arith}
-use lib.ListN.{length}
-use borrow.Author.Rules.{rules}
-use Rattle.forms.proofs.Putting.{Left, begin, more, last}
+use Rattle.forms.proofs.Putting.{begin, more, last}
 use Rattle.forms.proofs.put_numbers.Goals as goal
 
 pub loop-done-init : goal.loop-done-init

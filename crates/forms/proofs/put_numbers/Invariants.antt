@@ -1,8 +1,6 @@
 use Prim.Native.Nat.{◌-◌}
-use native.Mathlib.Omega.{arith}
 use lib.ListN.{length}
-use borrow.Author.Rules.{rules}
-use Rattle.forms.proofs.Putting.{Left, begin, more, last}
+use Rattle.forms.proofs.Putting.{Left}
 use Rattle.forms.proofs.put_numbers.Given as goal
 
 -- many are left. Assumes nothing.

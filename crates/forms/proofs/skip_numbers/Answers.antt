@@ -1,10 +1,8 @@
 -- `forms::skip_numbers` meets its contract. The loop's invariant: reading the numbers that are left ends where reading all of them does. The
-use mathlib.Core.Path.{◌≡◌, sym, ◌∙◌}
-use Prim.Native.Nat.{◌≤◌, ◌-◌}
+use mathlib.Core.Path.{sym, ◌∙◌}
 use native.Mathlib.Omega.{arith}
 use native.Mathlib.Nat.{sub-zero}
 use borrow.Author.Rules.{rules}
-use Rattle.forms.specs.Forms.{place_of, plain}
 use Rattle.forms.proofs.Steps.{plain-number, plain-refused, plain-none}
 use Rattle.forms.proofs.skip_numbers.Goals as goal
 

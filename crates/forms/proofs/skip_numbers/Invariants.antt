@@ -1,10 +1,6 @@
-use mathlib.Core.Path.{◌≡◌, sym, ◌∙◌}
+use mathlib.Core.Path.{◌≡◌}
 use Prim.Native.Nat.{◌≤◌, ◌-◌}
-use native.Mathlib.Omega.{arith}
-use native.Mathlib.Nat.{sub-zero}
-use borrow.Author.Rules.{rules}
 use Rattle.forms.specs.Forms.{place_of, plain}
-use Rattle.forms.proofs.Steps.{plain-number, plain-refused, plain-none}
 use Rattle.forms.proofs.skip_numbers.Given as goal
 
 -- measure is how many are left. Assumes nothing.

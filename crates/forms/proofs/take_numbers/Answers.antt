@@ -1,9 +1,9 @@
 -- `forms::take_numbers` meets its contract. The loop's invariant: storing the numbers that are left makes what storing all of them makes. The
-use mathlib.Core.Path.{◌≡◌, refl, sym, ap, ◌∙◌}
-use Prim.Native.Nat.{◌≤◌, ◌-◌}
+use mathlib.Core.Path.{refl, sym, ap, ◌∙◌}
+use Prim.Native.Nat.{◌-◌}
 use native.Mathlib.Omega.{arith}
 use native.Mathlib.Nat.{sub-zero}
-use lib.ListN.{length, length-set}
+use lib.ListN.{length-set}
 use lib.Seq.{sets}
 use borrow.Author.Rules.{rules}
 use Rattle.forms.specs.Forms.{numbers_at}

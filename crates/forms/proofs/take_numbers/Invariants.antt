@@ -1,12 +1,8 @@
-use mathlib.Core.Path.{◌≡◌, refl, sym, ap, ◌∙◌}
+use mathlib.Core.Path.{◌≡◌}
 use Prim.Native.Nat.{◌≤◌, ◌-◌}
-use native.Mathlib.Omega.{arith}
-use native.Mathlib.Nat.{sub-zero}
-use lib.ListN.{length, length-set}
+use lib.ListN.{length}
 use lib.Seq.{sets}
-use borrow.Author.Rules.{rules}
 use Rattle.forms.specs.Forms.{numbers_at}
-use Rattle.forms.proofs.Steps.{stored-number, taken_refused, taken_none, sets-out}
 use Rattle.forms.proofs.take_numbers.Given as goal
 
 -- measure is how many are left. Assumes nothing.

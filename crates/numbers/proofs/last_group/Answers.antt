@@ -1,11 +1,9 @@
 -- `numbers::last_group` meets its contract, by the tests that lead to each answer. Assumes nothing.
 use mathlib.Core.Path.{◌≡◌}
 use mathlib.Core.Bool.{false, ◌&&◌}
-use mathlib.Core.Logic.{⊎_elim}
 use native.Mathlib.Omega.{arith}
 use lib.Dec.{eqb, ltb}
 use borrow.Author.Tests.{lt-ltb, le-ltb, eq-eqb, ne_eqb}
-use borrow.Author.Rules.{rules}
 use Rattle.numbers.specs.Coding.{last_group}
 use Rattle.numbers.proofs.last_group.Goals as goal
 use Rattle.numbers.proofs.last_group.Goals.{Joined-group-eq0, then-group-eq0+else-earlier-gt0, else-group-eq0}

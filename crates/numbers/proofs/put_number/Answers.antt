@@ -1,9 +1,9 @@
 -- `numbers::put_number` meets its contract. The loop's invariant: what is left, put from `i` on, makes the whole. The measure is how far the
-use Prim.Native.Nat.{◌+◌, ◌-◌, ◌%◌}
+use Prim.Native.Nat.{◌+◌, ◌%◌}
 use native.Mathlib.Omega.{arith}
 use borrow.Author.Rules.{rules}
-use lib.ListN.{length, length-set}
-use Rattle.numbers.proofs.Forms.{Left, begin, more, last, full}
+use lib.ListN.{length-set}
+use Rattle.numbers.proofs.Forms.{begin, more, last, full}
 use Rattle.numbers.proofs.put_number.Goals as goal
 
 pub loop-i-init : goal.loop-i-init

@@ -1,8 +1,6 @@
-use Prim.Native.Nat.{◌+◌, ◌-◌, ◌%◌}
-use native.Mathlib.Omega.{arith}
-use borrow.Author.Rules.{rules}
-use lib.ListN.{length, length-set}
-use Rattle.numbers.proofs.Forms.{Left, begin, more, last, full}
+use Prim.Native.Nat.{◌-◌}
+use lib.ListN.{length}
+use Rattle.numbers.proofs.Forms.{Left}
 use Rattle.numbers.proofs.put_number.Given as goal
 
 -- buffer goes. Assumes nothing.

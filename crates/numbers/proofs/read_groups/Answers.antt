@@ -1,14 +1,12 @@
 -- `numbers::read_groups` meets its contract. The loop's invariant: reading on with what the groups so far came to gives what reading from the
-use mathlib.Core.Path.{◌≡◌, refl, sym, ap, ◌∙◌}
-use mathlib.Core.Bool.{false}
-use Prim.Native.Nat.{ℕ, ◌≤◌, ◌<◌, ◌-◌, ◌*◌, ◌^◌}
+use mathlib.Core.Path.{refl, sym, ap, ◌∙◌}
+use Prim.Native.Nat.{ℕ, ◌≤◌, ◌-◌, ◌*◌, ◌^◌}
 use native.Mathlib.Omega.{arith}
 use native.Mathlib.Nat.{pow-suc, le_refl, mul-le-mul, sub-zero}
 use native.Mathlib.Numerals.{add-one}
 use lib.Dec.{ltb}
 use lib.ListN.{drop, get_or}
 use borrow.Author.Rules.{rules}
-use Rattle.numbers.specs.Coding.{groups_from}
 use Rattle.numbers.proofs.Groups.{ended, group-last, group-more, done, weight-small}
 use Rattle.numbers.proofs.read_groups.Goals as goal
 use Rattle.numbers.proofs.read_groups.Goals.{After-shared_slice_known-in-loop-earlier-1}

@@ -1,14 +1,9 @@
-use mathlib.Core.Path.{◌≡◌, refl, sym, ap, ◌∙◌}
+use mathlib.Core.Path.{◌≡◌}
 use mathlib.Core.Bool.{false}
-use Prim.Native.Nat.{ℕ, ◌≤◌, ◌<◌, ◌-◌, ◌*◌, ◌^◌}
-use native.Mathlib.Omega.{arith}
-use native.Mathlib.Nat.{pow-suc, le_refl, mul-le-mul, sub-zero}
-use native.Mathlib.Numerals.{add-one}
+use Prim.Native.Nat.{◌≤◌, ◌<◌, ◌-◌, ◌^◌}
 use lib.Dec.{ltb}
-use lib.ListN.{drop, get_or}
-use borrow.Author.Rules.{rules}
+use lib.ListN.{drop}
 use Rattle.numbers.specs.Coding.{groups_from}
-use Rattle.numbers.proofs.Groups.{ended, group-last, group-more, done, weight-small}
 use Rattle.numbers.proofs.read_groups.Given as goal
 
 -- start gives. The measure is how many groups may follow. Assumes nothing.

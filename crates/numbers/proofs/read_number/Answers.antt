@@ -1,6 +1,5 @@
 -- `numbers::read_number` meets its contract: `read_groups` reads, with the groups and the greatest number of the limit. Assumes nothing.
 use native.Mathlib.Omega.{arith}
-use borrow.Author.Rules.{rules}
 use Rattle.numbers.specs.Coding.{read_number}
 use Rattle.numbers.proofs.Groups.{groups-few}
 use Rattle.numbers.proofs.read_number.Goals as goal

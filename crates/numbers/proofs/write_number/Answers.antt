@@ -1,6 +1,5 @@
 -- `numbers::write_number` meets its contract: the tests lead to the three answers of a writer. Assumes nothing.
 use native.Mathlib.Omega.{arith}
-use borrow.Author.Rules.{rules}
 use Rattle.numbers.proofs.Writing.{too_large, no_room, wrote}
 use Rattle.numbers.proofs.write_number.Goals as goal
 

@@ -4,7 +4,6 @@ use lib.ListN.{length-append}
 use Rattle.text.specs.Words.{bytes}
 use Rattle.text.specs.Digits.{decimal}
 use Rattle.printer.proofs.Adding.{after_both}
-use borrow.Author.Rules.{rules}
 use Rattle.printer.proofs.add_end_line.Goals as goal
 
 pub add_word-of_events-requires : goal.add_word-of_events-requires

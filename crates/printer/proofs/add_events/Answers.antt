@@ -1,8 +1,6 @@
 -- `printer::add_events` meets its contract. The loop's invariant: the lines that are left, put from `next` on, make the whole. The measure is how
-use Prim.Native.Nat.{◌-◌}
 use native.Mathlib.Omega.{arith}
-use Rattle.printer.proofs.Events.{Printing, begin-print, print-room, print-event, print-all}
-use borrow.Author.Rules.{rules}
+use Rattle.printer.proofs.Events.{begin-print, print-room, print-event, print-all}
 use Rattle.printer.proofs.add_events.Goals as goal
 
 pub loop-k-init : goal.loop-k-init

@@ -1,7 +1,5 @@
 use Prim.Native.Nat.{◌-◌}
-use native.Mathlib.Omega.{arith}
-use Rattle.printer.proofs.Events.{Printing, begin-print, print-room, print-event, print-all}
-use borrow.Author.Rules.{rules}
+use Rattle.printer.proofs.Events.{Printing}
 use Rattle.printer.proofs.add_events.Given as goal
 
 -- many events are left. Assumes nothing.

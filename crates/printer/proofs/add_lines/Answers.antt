@@ -2,7 +2,6 @@
 use Rattle.text.specs.Words.{bytes}
 use Rattle.printer.specs.Text.{ok_line, learnt_line, decided_line, lines}
 use Rattle.printer.proofs.Adding.{after, first-room, second-room}
-use borrow.Author.Rules.{rules}
 use Rattle.printer.proofs.add_lines.Goals as goal
 
 pub add_number-requires : goal.add_number-requires

@@ -5,7 +5,6 @@ use native.Mathlib.Omega.{arith}
 use lib.ListN.{length-append}
 use Rattle.text.specs.Digits.{decimal}
 use Rattle.printer.proofs.Adding.{stored, after}
-use borrow.Author.Rules.{rules}
 use Rattle.printer.proofs.add_number.Goals as goal
 
 pub overflow_add-at : goal.overflow_add-at

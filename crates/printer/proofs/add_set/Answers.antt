@@ -13,7 +13,6 @@ use Rattle.printer.specs.Adds.{Adds}
 use Rattle.printer.specs.Text.{set_width, set_text}
 use Rattle.printer.proofs.Adding.{stored, after}
 use Rattle.printer.proofs.Lengths.{set-length, width-most}
-use borrow.Author.Rules.{rules}
 use Rattle.printer.proofs.add_set.Goals as goal
 
 -- the digits of its word are the text of a set

@@ -5,7 +5,6 @@ use Rattle.text.specs.Words.{bytes}
 use Rattle.text.specs.Digits.{decimal}
 use Rattle.printer.specs.Text.{set_text}
 use Rattle.printer.proofs.Adding.{after_both}
-use borrow.Author.Rules.{rules}
 use Rattle.printer.proofs.add_set_line.Goals as goal
 
 pub add_number-of_party-requires : goal.add_number-of_party-requires

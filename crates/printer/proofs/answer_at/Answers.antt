@@ -5,7 +5,6 @@ use native.Mathlib.Omega.{arith}
 use lib.ListN.{length, drop, length-drop}
 use lib.Seq.{take_all}
 use Rattle.machine.specs.Log.{per_answer, read_numbers}
-use borrow.Author.Rules.{rules}
 use Rattle.printer.proofs.answer_at.Goals as goal
 
 pub returns : goal.returns

@@ -1,7 +1,6 @@
 -- `printer::answer_of` meets its contract. Assumes nothing.
 use borrow.Author.Tests.{eq-eqb, ne_eqb, lt-ltb, le-ltb}
 use Rattle.machine.specs.Log.{read_answer_of}
-use borrow.Author.Rules.{rules}
 use Rattle.printer.proofs.answer_of.Goals as goal
 
 pub returns-then-code-eq0 : goal.returns-then-code-eq0

@@ -1,9 +1,8 @@
 -- `printer::count_events` meets its contract. The loop's invariant: what was counted, with the events that are left, makes the whole. The measure
-use Prim.Native.Nat.{◌+◌, ◌-◌, ◌≤◌}
+use Prim.Native.Nat.{◌+◌, ◌≤◌}
 use native.Mathlib.Omega.{arith}
 use Rattle.printer.proofs.Lengths.{lines-most}
-use Rattle.printer.proofs.Events.{Counting, begin-count, count-event, count_small, count-all}
-use borrow.Author.Rules.{rules}
+use Rattle.printer.proofs.Events.{begin-count, count-event, count_small, count-all}
 use Rattle.printer.proofs.count_events.Goals as goal
 
 pub loop-k-init : goal.loop-k-init

@@ -1,8 +1,5 @@
-use Prim.Native.Nat.{◌+◌, ◌-◌}
-use native.Mathlib.Omega.{arith}
-use Rattle.printer.proofs.Lengths.{lines-most}
-use Rattle.printer.proofs.Events.{Counting, begin-count, count-event, count_small, count-all}
-use borrow.Author.Rules.{rules}
+use Prim.Native.Nat.{◌-◌}
+use Rattle.printer.proofs.Events.{Counting}
 use Rattle.printer.proofs.count_events.Given as goal
 
 -- is how many events are left. Assumes nothing.

@@ -2,7 +2,6 @@
 use native.Mathlib.Omega.{arith}
 use Rattle.text.proofs.DigitLaws.{decimal-most}
 use Rattle.printer.proofs.Lengths.{end-length}
-use borrow.Author.Rules.{rules}
 use Rattle.printer.proofs.end_line_length.Goals as goal
 
 pub overflow_add-result : goal.overflow_add-result

@@ -1,6 +1,5 @@
 -- `printer::ok_one` meets its contract. Assumes nothing.
 use borrow.Author.Tests.{eq-eqb, ne_eqb}
-use borrow.Author.Rules.{rules}
 use Rattle.printer.proofs.ok_one.Goals as goal
 
 pub returns-then-no-eq0 : goal.returns-then-no-eq0

@@ -3,7 +3,6 @@ use mathlib.Core.Path.{◌≡◌, sym, ap, ◌∙◌, subst}
 use mathlib.Core.List.{List}
 use Prim.Native.Nat.{ℕ, ◌*◌, ◌≤◌}
 use lib.ListN.{length, replicate, length-replicate}
-use borrow.Author.Rules.{rules}
 use Rattle.printer.specs.Text.{text_written, after_text}
 use Rattle.printer.proofs.Adding.{numbered}
 use Rattle.printer.specs.Printing.{text_of_run, text}

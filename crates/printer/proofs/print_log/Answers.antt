@@ -6,7 +6,6 @@ use Rattle.printer.specs.Text.{run_text}
 use Rattle.printer.proofs.Adding.{after, no_room, printed}
 use Rattle.printer.proofs.Lengths.{end-most}
 use Rattle.printer.proofs.Events.{ok-most, lines-most-in, run-text, run_length}
-use borrow.Author.Rules.{rules}
 use Rattle.printer.proofs.print_log.Goals as goal
 
 pub overflow_sub-refused : goal.overflow_sub-refused

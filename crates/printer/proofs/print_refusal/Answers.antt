@@ -7,7 +7,6 @@ use Rattle.text.proofs.DigitLaws.{decimal-most}
 use Rattle.printer.specs.Text.{refused_text}
 use Rattle.printer.proofs.Adding.{after_both, no_room, printed}
 use Rattle.printer.proofs.Lengths.{refusal-length}
-use borrow.Author.Rules.{rules}
 use Rattle.printer.proofs.print_refusal.Goals as goal
 
 pub overflow_add-decimal_width : goal.overflow_add-decimal_width

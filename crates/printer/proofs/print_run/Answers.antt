@@ -3,7 +3,6 @@ use mathlib.Core.List.{List}
 use Prim.Native.Nat.{ℕ, ◌*◌, ◌≤◌}
 use native.Mathlib.Omega.{arith}
 use lib.ListN.{length, replicate, length-replicate}
-use borrow.Author.Rules.{rules}
 use Rattle.sizes.specs.Events.{most_events}
 use Rattle.machine.specs.Log.{per_answer}
 use Rattle.printer.proofs.Printing.{run-printed}

@@ -4,7 +4,6 @@ use mathlib.Core.Path.{sym, ◌∙◌}
 use Rattle.forms.specs.declared.Place.TheVariants as place
 use Rattle.scan_table.specs.Table.{tag_no, shelf_no, device_no, time_no}
 use Rattle.scan_table.proofs.Checking.{row_step, place_none}
-use borrow.Author.Rules.{rules}
 use Rattle.scan_table.proofs.check_scan.Goals as goal
 
 pub returns : goal.returns

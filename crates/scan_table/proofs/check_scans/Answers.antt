@@ -1,10 +1,8 @@
 -- `scan_table::check_scans` meets its contract. The loop's invariant: reading the scans that are left ends where reading all of them does. The
-use mathlib.Core.Path.{◌≡◌, sym, ◌∙◌}
-use Prim.Native.Nat.{◌≤◌, ◌-◌}
+use mathlib.Core.Path.{sym, ◌∙◌}
 use native.Mathlib.Omega.{arith}
 use native.Mathlib.Nat.{sub-zero}
 use Rattle.numbers.specs.declared.Limit.TheVariants.{Table}
-use Rattle.forms.specs.Forms.{place_of, rows}
 use Rattle.scan_table.specs.Table.{scan_tests}
 use Rattle.scan_table.proofs.Checking.{rows_next, rows-refused, rows_none}
 use borrow.Author.Rules.{rules}

@@ -1,12 +1,8 @@
-use mathlib.Core.Path.{◌≡◌, sym, ◌∙◌}
+use mathlib.Core.Path.{◌≡◌}
 use Prim.Native.Nat.{◌≤◌, ◌-◌}
-use native.Mathlib.Omega.{arith}
-use native.Mathlib.Nat.{sub-zero}
 use Rattle.numbers.specs.declared.Limit.TheVariants.{Table}
 use Rattle.forms.specs.Forms.{place_of, rows}
 use Rattle.scan_table.specs.Table.{scan_tests}
-use Rattle.scan_table.proofs.Checking.{rows_next, rows-refused, rows_none}
-use borrow.Author.Rules.{rules}
 use Rattle.scan_table.proofs.check_scans.Given as goal
 
 -- measure is how many are left. Assumes nothing.

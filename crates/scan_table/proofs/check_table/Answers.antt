@@ -1,11 +1,9 @@
 -- `scan_table::check_table` meets its contract: the size, the scans, the end. Assumes nothing.
 use mathlib.Core.Path.{sym, ap, ◌∙◌}
 use lib.ListN.{length}
-use borrow.Author.Tests.{not-true, not-false}
 use Rattle.forms.specs.Forms.{ended_at}
 use Rattle.scan_table.specs.Table.{read_table}
 use Rattle.scan_table.proofs.Tables.{answered, check-ended, check-stopped, check-unsized, check-refused}
-use borrow.Author.Rules.{rules}
 use Rattle.scan_table.proofs.check_table.Goals as goal
 
 pub returns-then-not-scans_in_range : goal.returns-then-not-scans_in_range

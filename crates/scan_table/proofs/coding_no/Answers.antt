@@ -1,6 +1,5 @@
 -- `scan_table::coding_no` meets its contract. Assumes nothing.
 use native.Mathlib.Omega.{arith}
-use borrow.Author.Rules.{rules}
 use mathlib.Core.Path.{sym}
 use Rattle.numbers.specs.declared.Limit.TheVariants.{Table}
 use Rattle.numbers.proofs.CodingLaws.{limit-within, limit-above}

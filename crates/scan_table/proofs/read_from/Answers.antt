@@ -1,5 +1,4 @@
 -- `scan_table::read_from` meets its contract. Assumes nothing.
-use borrow.Author.Rules.{rules}
 use Rattle.scan_table.proofs.read_from.Goals as goal
 
 pub returns-in-Next : goal.returns-in-Next

@@ -4,7 +4,6 @@ use Prim.Native.Nat.{ℕ}
 use native.Mathlib.Omega.{arith}
 use Rattle.numbers.proofs.CodingLaws.{Bytes}
 use Rattle.scan_table.proofs.Tables.{table-narrow, table_taken, table-unread}
-use borrow.Author.Rules.{rules}
 use Rattle.scan_table.proofs.read_table.Goals as goal
 
 pub returns-then-room-scans : goal.returns-then-room-scans

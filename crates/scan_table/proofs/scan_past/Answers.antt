@@ -1,6 +1,5 @@
 -- `scan_table::scan_past` meets its contract. Assumes nothing.
 use Rattle.scan_table.proofs.Testing.{scan-of}
-use borrow.Author.Rules.{rules}
 use Rattle.scan_table.proofs.scan_past.Goals as goal
 
 pub returns : goal.returns

@@ -1,13 +1,11 @@
 -- `scan_table::scans_no` meets its contract. The loop's invariant: the first refusal of the scans from `at` on is that of all. The measure is how
 use mathlib.Core.Path.{◌≡◌, refl, sym, ◌∙◌}
-use Prim.Native.Nat.{ℕ, ◌+◌, ◌-◌, ◌%◌}
+use Prim.Native.Nat.{ℕ, ◌+◌, ◌%◌}
 use native.Mathlib.Omega.{arith}
 use native.Mathlib.Nat.{sub-zero}
 use lib.ListN.{length}
-use Rattle.forms.specs.Forms.{rows_no}
-use Rattle.scan_table.specs.Table.{scans_in, tests_of}
-use Rattle.scan_table.proofs.Testing.{four-tests, rest_no, scans-next, scans-refused, scans-none}
-use borrow.Author.Rules.{rules}
+use Rattle.scan_table.specs.Table.{tests_of}
+use Rattle.scan_table.proofs.Testing.{four-tests, scans-next, scans-refused, scans-none}
 use Rattle.scan_table.proofs.scans_no.Goals as goal
 
 next-four : (n : ℕ) → n % 4 ≡ 0 → (n + 4) % 4 ≡ 0

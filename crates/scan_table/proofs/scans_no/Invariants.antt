@@ -1,12 +1,9 @@
-use mathlib.Core.Path.{◌≡◌, refl, sym, ◌∙◌}
-use Prim.Native.Nat.{ℕ, ◌+◌, ◌-◌, ◌%◌}
-use native.Mathlib.Omega.{arith}
-use native.Mathlib.Nat.{sub-zero}
+use mathlib.Core.Path.{◌≡◌}
+use Prim.Native.Nat.{◌-◌, ◌%◌}
 use lib.ListN.{length}
 use Rattle.forms.specs.Forms.{rows_no}
 use Rattle.scan_table.specs.Table.{scans_in, tests_of}
-use Rattle.scan_table.proofs.Testing.{four-tests, rest_no, scans-next, scans-refused, scans-none}
-use borrow.Author.Rules.{rules}
+use Rattle.scan_table.proofs.Testing.{rest_no}
 use Rattle.scan_table.proofs.scans_no.Given as goal
 
 -- many numbers are left. Assumes nothing.

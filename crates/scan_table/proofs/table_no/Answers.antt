@@ -1,9 +1,7 @@
 -- `scan_table::table_no` meets its contract: whole scans, as many as a table may have, and then each of them. Assumes nothing.
 use mathlib.Core.Path.{sym, ◌∙◌}
-use borrow.Author.Tests.{not-true, not-false}
 use Rattle.scan_table.specs.Table.{tests_of}
 use Rattle.scan_table.proofs.Testing.{table-uneven, table-unsized, table-whole}
-use borrow.Author.Rules.{rules}
 use Rattle.scan_table.proofs.table_no.Goals as goal
 
 pub returns-then-fields-ne0 : goal.returns-then-fields-ne0

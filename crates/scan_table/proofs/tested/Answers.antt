@@ -1,6 +1,5 @@
 -- `scan_table::tested` meets its contract. Assumes nothing.
 use borrow.Author.Tests.{eq-eqb, ne_eqb}
-use borrow.Author.Rules.{rules}
 use Rattle.scan_table.proofs.tested.Goals as goal
 
 pub returns-then-no-eq0 : goal.returns-then-no-eq0

@@ -3,11 +3,10 @@ use mathlib.Core.Path.{sym, ap, ◌∙◌}
 use native.Mathlib.Omega.{arith}
 use lib.ListN.{length}
 use Prim.Native.Nat.{◌-◌}
-use borrow.Author.Tests.{leb-true, leb-false, not-true, not-false}
+use borrow.Author.Tests.{leb-true, leb-false}
 use Rattle.numbers.specs.Coding.{refused_write}
 use Rattle.forms.specs.Forms.{forms}
 use Rattle.scan_table.proofs.Writing.{form-length, table-refused, table-short, wrote-both}
-use borrow.Author.Rules.{rules}
 use Rattle.scan_table.proofs.write_table.Goals as goal
 
 pub returns-then-no-ne0 : goal.returns-then-no-ne0

@@ -2,7 +2,6 @@
 use mathlib.Core.Path.{◌≡◌, refl, sym, ap, ◌∙◌}
 use native.Mathlib.Omega.{arith}
 use lib.ListN.{length, replicate}
-use borrow.Author.Rules.{rules}
 use Rattle.numbers.specs.declared.Limit.TheVariants as limit
 use Prim.Native.Nat.{◌*◌}
 use Rattle.forms.specs.Forms.{got, plain, place_of, ended_at}

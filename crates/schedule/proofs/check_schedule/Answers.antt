@@ -1,6 +1,5 @@
 -- `schedule::check_schedule` meets its contract: the check answers as reading does. Assumes nothing.
 use mathlib.Core.Path.{sym, ◌∙◌}
-use borrow.Author.Rules.{rules}
 use Rattle.schedule.specs.Schedule.{read_schedule, schedule_answer}
 use Rattle.schedule.proofs.Parts.{check-form, check-refused}
 use Rattle.schedule.proofs.Answers.{answered}

@@ -1,7 +1,6 @@
 -- `schedule::header_no` meets its contract: sizes are tested first. Assumes nothing.
-use borrow.Author.Rules.{rules}
 use mathlib.Core.Path.{sym, ◌∙◌}
-use borrow.Author.Tests.{lt-leb, le-leb, not-true, not-false}
+use borrow.Author.Tests.{lt-leb, le-leb}
 use Rattle.schedule.specs.Schedule.{header_no}
 use Rattle.schedule.proofs.header_no.Goals as goal
 

@@ -1,5 +1,4 @@
 -- `schedule::header_of` meets its contract: each of the six numbers is below 65,536, so that no cast loses bits. Assumes nothing.
-use borrow.Author.Rules.{rules}
 use native.Mathlib.Omega.{arith}
 use mathlib.Core.Path.{refl}
 use Rattle.schedule.specs.Schedule.{header_of}

@@ -1,5 +1,4 @@
 -- `schedule::header_width` meets its contract: six forms of at most ten bytes each. Assumes nothing.
-use borrow.Author.Rules.{rules}
 use native.Mathlib.Omega.{arith}
 use Prim.Native.Nat.{◌+◌, ◌≤◌}
 use lib.ListN.{length-append}

@@ -1,5 +1,4 @@
 -- `schedule::numbers_of` meets its contract. Assumes nothing.
-use borrow.Author.Rules.{rules}
 use mathlib.Core.Path.{refl}
 use Rattle.schedule.specs.Schedule.{numbers_of}
 use Rattle.schedule.proofs.numbers_of.Goals as goal

@@ -1,7 +1,6 @@
 -- `schedule::read_schedule` meets its contract: the room is filled only where the whole form is right and it is large enough. Assumes nothing.
 use mathlib.Core.Path.{sym, ◌∙◌}
 use native.Mathlib.Omega.{arith}
-use borrow.Author.Rules.{rules}
 use Rattle.schedule.proofs.Parts.{check-form, check-refused}
 use Rattle.schedule.proofs.Answers.{no-form, small, filled}
 use Rattle.schedule.proofs.read_schedule.Goals as goal

@@ -1,5 +1,4 @@
 -- `schedule::schedule_no` meets its contract: the tests in their order. Assumes nothing.
-use borrow.Author.Rules.{rules}
 use mathlib.Core.Path.{◌≡◌, sym, ◌∙◌}
 use borrow.Author.Tests.{lt-leb, le-leb, eq-eqb, ne_eqb}
 use Rattle.choice.specs.Tests.{◌unless◌, ◌⨾◌, ok}

@@ -1,8 +1,6 @@
 -- `shelf::ask_of` meets its contract: the tag, the set, and then the newest. Assumes nothing.
 use mathlib.Core.Path.{sym, ap, ◌∙◌}
 use native.Mathlib.Omega.{arith}
-use borrow.Author.Rules.{rules}
-use borrow.Author.Tests.{not-true, not-false}
 use Rattle.shelf.specs.Shelf.{shown}
 use Rattle.shelf.proofs.Asking.{ask-tag, ask-set, ask-newest}
 use Rattle.shelf.proofs.ask_of.Goals as goal

@@ -1,6 +1,5 @@
 -- `shelf::better_of` meets its contract. Assumes nothing.
 use mathlib.Core.Path.{sym, ◌∙◌}
-use borrow.Author.Rules.{rules}
 use Rattle.shelf.specs.Shelf.{better}
 use Rattle.shelf.proofs.better_of.Goals as goal
 

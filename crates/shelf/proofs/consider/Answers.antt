@@ -1,12 +1,11 @@
 -- `shelf::consider` meets its contract: the tag and then the set are looked at. Assumes nothing.
 use mathlib.Core.Path.{◌≡◌, sym, ap, ◌∙◌}
 use mathlib.Core.Bool.{true, false}
-use borrow.Author.Tests.{eq-eqb, ne_eqb, not-true, not-false}
+use borrow.Author.Tests.{eq-eqb, ne_eqb}
 use Rattle.sets.specs.Scans.{holds}
 use Rattle.scan_table.specs.Table.{scan_at}
 use Rattle.scan_table.specs.declared.Scan.{Scan}
 use Rattle.shelf.specs.Shelf.{is_candidate}
-use borrow.Author.Rules.{rules}
 use Rattle.shelf.proofs.consider.Goals as goal
 
 pub returns-then-scan-tag : goal.returns-then-scan-tag

@@ -1,6 +1,5 @@
 -- `shelf::newest_of` meets its contract. The loop's invariant: what is found so far is the newest of the scans passed. The measure is how many
 use mathlib.Core.Path.{◌≡◌, ◌∙◌}
-use Prim.Native.Nat.{◌-◌, ◌≤◌}
 use native.Mathlib.Omega.{arith}
 use borrow.Author.Rules.{rules}
 use Rattle.scan_table.specs.Table.{scan_at}

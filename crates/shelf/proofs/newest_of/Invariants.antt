@@ -1,11 +1,6 @@
-use mathlib.Core.Path.{◌≡◌, ◌∙◌}
-use mathlib.Core.Logic.{⊎_elim}
+use mathlib.Core.Path.{◌≡◌}
 use Prim.Native.Nat.{◌-◌, ◌≤◌}
-use native.Mathlib.Omega.{arith}
-use borrow.Author.Rules.{rules}
-use Rattle.scan_table.specs.Table.{scan_at}
 use Rattle.shelf.specs.Shelf.{newest}
-use Rattle.shelf.proofs.Asking.{newest-considered, newest-other}
 use Rattle.shelf.proofs.newest_of.Given as goal
 
 -- are left. Assumes nothing.

@@ -1,7 +1,6 @@
 -- `shelf::where_is` meets its contract: the table, and then the question. Assumes nothing.
 use mathlib.Core.Path.{sym, ap, ◌∙◌}
 use native.Mathlib.Omega.{arith}
-use borrow.Author.Rules.{rules}
 use Rattle.sets.specs.Scans.{most_scans}
 use Rattle.shelf.specs.Shelf.{refused_shelf}
 use Rattle.shelf.proofs.Asking.{table-most, where-refused, where-asked, asked}

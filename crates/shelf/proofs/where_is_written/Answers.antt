@@ -3,7 +3,6 @@ use mathlib.Core.Path.{sym, ap, ◌∙◌}
 use mathlib.Core.List.{List}
 use Prim.Native.Nat.{ℕ}
 use native.Mathlib.Omega.{arith}
-use borrow.Author.Rules.{rules}
 use Rattle.sets.specs.Scans.{most_scans}
 use Rattle.scan_table.specs.Table.{read_table}
 use Rattle.shelf.specs.Shelf.{ask}

@@ -1,4 +1,3 @@
-use borrow.Author.Rules.{rules}
 use Rattle.sets.specs.Scans.{most_scans}
 use Rattle.sizes.specs.Sizes.{scans_in_range}
 use Rattle.sizes.proofs.scans_in_range.Goals as goal

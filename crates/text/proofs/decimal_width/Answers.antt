@@ -1,7 +1,7 @@
 -- `text::decimal_width` meets its contract. The loop's invariant: the digits of the rest, with those that were counted, make the number. The
 use native.Mathlib.Omega.{arith}
 use borrow.Author.Rules.{rules}
-use Rattle.text.proofs.Finding.{Counted, begin-count, count-few, count-more, count-last}
+use Rattle.text.proofs.Finding.{begin-count, count-few, count-more, count-last}
 use Rattle.text.proofs.decimal_width.Goals as goal
 
 pub loop-rest-init : goal.loop-rest-init

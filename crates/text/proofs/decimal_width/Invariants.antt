@@ -1,6 +1,4 @@
-use native.Mathlib.Omega.{arith}
-use borrow.Author.Rules.{rules}
-use Rattle.text.proofs.Finding.{Counted, begin-count, count-few, count-more, count-last}
+use Rattle.text.proofs.Finding.{Counted}
 use Rattle.text.proofs.decimal_width.Given as goal
 
 -- measure is the rest. Assumes nothing.

@@ -1,5 +1,4 @@
 -- `text::digit_byte` meets its contract. Assumes nothing.
-use borrow.Author.Rules.{rules}
 use borrow.Author.Tests.{lt-ltb, le-ltb}
 use Rattle.text.proofs.digit_byte.Goals as goal
 

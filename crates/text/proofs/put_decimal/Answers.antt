@@ -3,7 +3,7 @@ use mathlib.Core.Path.{refl, ◌∙◌}
 use native.Mathlib.Omega.{arith}
 use lib.ListN.{length-set}
 use borrow.Author.Rules.{rules}
-use Rattle.text.proofs.Finding.{Filled, begin-fill, fill_more, fill-last, several}
+use Rattle.text.proofs.Finding.{begin-fill, fill_more, fill-last, several}
 use Rattle.text.proofs.put_decimal.Goals as goal
 
 pub loop-rest-init : goal.loop-rest-init

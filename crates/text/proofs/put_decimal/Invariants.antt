@@ -1,8 +1,4 @@
-use mathlib.Core.Path.{refl, ◌∙◌}
-use native.Mathlib.Omega.{arith}
-use lib.ListN.{length-set}
-use borrow.Author.Rules.{rules}
-use Rattle.text.proofs.Finding.{Filled, begin-fill, fill_more, fill-last, several}
+use Rattle.text.proofs.Finding.{Filled}
 use Rattle.text.proofs.put_decimal.Given as goal
 
 -- is the rest. Assumes nothing.

@@ -1,9 +1,7 @@
 -- `text::put_hex` meets its contract. The loop's invariant: the digits of the rest, with those that were found, make the number. The measure
 use mathlib.Core.Path.{refl, sym, ◌∙◌}
-use Prim.Native.Nat.{◌-◌}
 use native.Mathlib.Omega.{arith}
-use Rattle.text.proofs.Finding.{HexFilled, begin-hex, more-hex, last-hex}
-use borrow.Author.Rules.{rules}
+use Rattle.text.proofs.Finding.{begin-hex, more-hex, last-hex}
 use Rattle.text.proofs.put_hex.Goals as goal
 
 pub loop-found-init : goal.loop-found-init

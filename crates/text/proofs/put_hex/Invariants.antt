@@ -1,8 +1,5 @@
-use mathlib.Core.Path.{refl, sym, ◌∙◌}
 use Prim.Native.Nat.{◌-◌}
-use native.Mathlib.Omega.{arith}
-use Rattle.text.proofs.Finding.{HexFilled, begin-hex, more-hex, last-hex}
-use borrow.Author.Rules.{rules}
+use Rattle.text.proofs.Finding.{HexFilled}
 use Rattle.text.proofs.put_hex.Given as goal
 
 -- is how many are left to find. Assumes nothing.

@@ -1,9 +1,6 @@
 -- `text::put_word` meets its contract. The loop's invariant: what is left of the word, put from `place` on, makes the whole. The measure is how
-use Prim.Native.Nat.{◌-◌}
 use native.Mathlib.Omega.{arith}
-use lib.ListN.{length}
-use borrow.Author.Rules.{rules}
-use Rattle.text.proofs.Putting.{Left, begin, more, full, last}
+use Rattle.text.proofs.Putting.{begin, more, full, last}
 use Rattle.text.proofs.put_word.Goals as goal
 
 pub loop-i-init : goal.loop-i-init

@@ -1,8 +1,6 @@
 use Prim.Native.Nat.{◌-◌}
-use native.Mathlib.Omega.{arith}
 use lib.ListN.{length}
-use borrow.Author.Rules.{rules}
-use Rattle.text.proofs.Putting.{Left, begin, more, full, last}
+use Rattle.text.proofs.Putting.{Left}
 use Rattle.text.proofs.put_word.Given as goal
 
 -- many bytes are left. Assumes nothing.

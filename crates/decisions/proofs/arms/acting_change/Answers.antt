@@ -1,7 +1,5 @@
-use mathlib.Core.Path.{◌∙◌}
 use Rattle.decisions.specs.Change.{change_of}
 use Rattle.decisions.proofs.Deciding.{acting-left}
-use borrow.Author.Rules.{rules}
 use Rattle.decisions.proofs.arms.acting_change.Goals as goal
 
 pub returns-in-1 : goal.returns-in-1

@@ -1,7 +1,6 @@
 use mathlib.Core.Path.{◌∙◌}
 use Rattle.decisions.specs.Refusals.{test_no}
 use Rattle.decisions.proofs.Deciding.{acting-test}
-use borrow.Author.Rules.{rules}
 use Rattle.decisions.proofs.arms.acting_no.Goals as goal
 
 pub returns-in-1 : goal.returns-in-1

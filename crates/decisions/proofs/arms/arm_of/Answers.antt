@@ -1,9 +1,7 @@
-use mathlib.Core.Path.{◌≡◌, refl, sym, ap}
+use mathlib.Core.Path.{◌≡◌, refl}
 use Prim.Native.Nat.{ℕ, zero, suc}
-use Rattle.model.specs.declared.Event.{Event}
 use Rattle.model.specs.declared.Message.{Message}
 use Rattle.decisions.specs.Arms.{arm_at, arm_of}
-use borrow.Author.Rules.{rules}
 use Rattle.decisions.proofs.arms.arm_of.Goals as goal
 
 -- the codes that are left

@@ -1,7 +1,6 @@
 use mathlib.Core.Path.{refl, sym}
 use Rattle.decisions.specs.Arms.{arm_of_kind}
 use Rattle.decisions.proofs.Dispatch.{other-kind}
-use borrow.Author.Rules.{rules}
 use Rattle.decisions.proofs.arms.arm_of_kind.Goals as goal
 
 pub returns-in-1 : goal.returns-in-1

@@ -1,7 +1,4 @@
-use mathlib.Core.Path.{refl, sym, ap}
-use Rattle.decisions.specs.Arms.{arm_of_role}
 use Rattle.decisions.proofs.Dispatch.{no-role}
-use borrow.Author.Rules.{rules}
 use Rattle.decisions.proofs.arms.arm_of_role.Goals as goal
 
 pub returns-in-1 : goal.returns-in-1

@@ -1,5 +1,4 @@
 use Rattle.decisions.proofs.Deciding.{answer-delivered, answer-crashed}
-use borrow.Author.Rules.{rules}
 use Rattle.decisions.proofs.arms.by_acceptor.Goals as goal
 
 pub returns-then-e-eq2 : goal.returns-then-e-eq2

@@ -1,5 +1,4 @@
 use Rattle.decisions.specs.Arms.{decide_of}
-use borrow.Author.Rules.{rules}
 use Rattle.decisions.proofs.arms.by_table.Goals as goal
 
 pub returns : goal.returns

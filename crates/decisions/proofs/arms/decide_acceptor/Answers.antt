@@ -1,6 +1,5 @@
 use mathlib.Core.Path.{sym, ◌∙◌}
 use Rattle.decisions.proofs.Deciding.{takes-own}
-use borrow.Author.Rules.{rules}
 use Rattle.decisions.proofs.arms.decide_acceptor.Goals as goal
 
 pub by_acceptor-requires : goal.by_acceptor-requires

@@ -1,6 +1,5 @@
 use mathlib.Core.Path.{sym, ◌∙◌}
 use Rattle.decisions.proofs.Deciding.{takes-own}
-use borrow.Author.Rules.{rules}
 use Rattle.decisions.proofs.arms.decide_table.Goals as goal
 
 pub by_table-requires : goal.by_table-requires

@@ -1,6 +1,5 @@
 use borrow.Author.Tests.{eq-eqb, ne_eqb}
 use Rattle.decisions.specs.Arms.{finish_of}
-use borrow.Author.Rules.{rules}
 use Rattle.decisions.proofs.arms.finish.Goals as goal
 
 pub returns-then-left-eq0 : goal.returns-then-left-eq0

@@ -1,6 +1,5 @@
 use mathlib.Core.Path.{sym, ◌∙◌}
 use Rattle.decisions.specs.Arms.{ear_at, ear_says}
-use borrow.Author.Rules.{rules}
 use Rattle.decisions.proofs.arms.hear_it.Goals as goal
 
 pub returns-then-learns : goal.returns-then-learns

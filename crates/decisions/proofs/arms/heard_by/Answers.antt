@@ -8,7 +8,6 @@ use Rattle.model.specs.declared.Answer.TheVariants.{Ok}
 use Rattle.decisions.specs.declared.arms.Ear.{Ear}
 use Rattle.decisions.specs.declared.arms.Listened.{Listened}
 use Rattle.decisions.specs.Arms.{ear_at, hears, ear_says}
-use borrow.Author.Rules.{rules}
 use Rattle.decisions.proofs.arms.heard_by.Goals as goal
 
 abbrev Stays : Sizes → Message → Ear → ℕ → Type 0

@@ -2,7 +2,6 @@ use mathlib.Core.Path.{◌≡◌, sym, ◌∙◌, subst}
 use Prim.Native.Nat.{ℕ}
 use borrow.Author.Tests.{eq-eqb, ne_eqb}
 use Rattle.decisions.specs.Arms.{heard_in}
-use borrow.Author.Rules.{rules}
 use Rattle.decisions.proofs.arms.listen.Goals as goal
 
 pub returns-then-no-eq0 : goal.returns-then-no-eq0

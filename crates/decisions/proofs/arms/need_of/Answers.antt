@@ -3,7 +3,6 @@ use Prim.Native.Nat.{ℕ, ◌-◌, ◌≤◌}
 use native.Mathlib.Omega.{arith}
 use borrow.Author.Tests.{eq-eqb, ne_eqb}
 use Rattle.decisions.specs.Arms.{need_of}
-use borrow.Author.Rules.{rules}
 use Rattle.decisions.proofs.arms.need_of.Goals as goal
 
 none_needed : (n : ℕ) → n ≤ 0 → 0 ≡ n - 1

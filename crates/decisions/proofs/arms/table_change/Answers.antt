@@ -1,6 +1,5 @@
 use Rattle.decisions.specs.Change.{change_of}
 use Rattle.decisions.proofs.Deciding.{table_stays}
-use borrow.Author.Rules.{rules}
 use Rattle.decisions.proofs.arms.table_change.Goals as goal
 
 pub returns-in-3 : goal.returns-in-3

@@ -1,7 +1,6 @@
 use mathlib.Core.Path.{◌∙◌}
 use Rattle.decisions.specs.Refusals.{test_no}
 use Rattle.decisions.proofs.Deciding.{table-delivered, table-crashes, table_none}
-use borrow.Author.Rules.{rules}
 use Rattle.decisions.proofs.arms.table_no.Goals as goal
 
 pub returns-in-2 : goal.returns-in-2

@@ -1,5 +1,4 @@
 use Rattle.decisions.proofs.Deciding.{told-done, told-refused}
-use borrow.Author.Rules.{rules}
 use Rattle.decisions.proofs.arms.tell.Goals as goal
 
 pub returns-then-no-eq0 : goal.returns-then-no-eq0

@@ -4,7 +4,6 @@ use Rattle.model.specs.Records.{kind_of}
 use Rattle.model.specs.declared.Proposer.{Proposer}
 use Rattle.model.specs.declared.Message.{Message}
 use Rattle.decisions.specs.Arms.{told_by}
-use borrow.Author.Rules.{rules}
 use Rattle.decisions.proofs.arms.told_by.Goals as goal
 
 others : {N : Type 0} (q : Proposer) (m : Message) (n : ℕ) → ((N × (n ≡ 1 → ⊥)) × (n ≡ 3 → ⊥)) × (n ≡ 4 → ⊥) → q ≡ told_by q m (kind_of n)

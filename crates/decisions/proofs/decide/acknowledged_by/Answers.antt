@@ -1,5 +1,4 @@
 use mathlib.Core.Path.{sym, ◌∙◌}
-use borrow.Author.Rules.{rules}
 use Rattle.decisions.specs.Change.{acknowledged_by}
 use Rattle.decisions.proofs.decide.acknowledged_by.Goals as goal
 

@@ -1,4 +1,3 @@
-use borrow.Author.Rules.{rules}
 use Rattle.decisions.specs.Change.{answering_of}
 use Rattle.decisions.proofs.decide.deliver_proposal.Goals as goal
 

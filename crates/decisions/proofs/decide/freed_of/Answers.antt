@@ -1,4 +1,3 @@
-use borrow.Author.Rules.{rules}
 use Rattle.decisions.proofs.decide.freed_of.Goals as goal
 
 pub returns : goal.returns

@@ -1,5 +1,3 @@
-use borrow.Author.Rules.{rules}
-use borrow.Author.Tests.{not-true, not-false}
 use Rattle.decisions.proofs.decide.party_no.Goals as goal
 
 pub returns-then-not-exists : goal.returns-then-not-exists

@@ -1,5 +1,4 @@
 use mathlib.Core.Path.{sym, ◌∙◌}
-use borrow.Author.Rules.{rules}
 use Rattle.decisions.proofs.decide.proposer_no.Goals as goal
 
 pub returns-then-both : goal.returns-then-both

@@ -1,5 +1,4 @@
 use native.Mathlib.Omega.{arith}
-use borrow.Author.Rules.{rules}
 use Rattle.decisions.specs.Change.{receiving_of}
 use Rattle.sizes.proofs.SizeLaws.{bounds}
 use Rattle.decisions.proofs.decide.receive.Goals as goal

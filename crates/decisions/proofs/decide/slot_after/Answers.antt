@@ -1,4 +1,3 @@
-use borrow.Author.Rules.{rules}
 use Rattle.decisions.specs.Change.{slot_after}
 use Rattle.decisions.proofs.decide.slot_after.Goals as goal
 

@@ -1,6 +1,4 @@
 use mathlib.Core.Path.{sym, ◌∙◌}
-use borrow.Author.Rules.{rules}
-use borrow.Author.Tests.{not-true, not-false}
 use Rattle.decisions.proofs.decide.slot_no.Goals as goal
 
 pub returns-then-not-both : goal.returns-then-not-both

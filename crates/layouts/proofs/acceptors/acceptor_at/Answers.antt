@@ -1,4 +1,3 @@
-use borrow.Author.Rules.{rules}
 use Rattle.layouts.specs.Layout.{acceptor_at}
 use Rattle.layouts.proofs.acceptors.acceptor_at.Goals as goal
 

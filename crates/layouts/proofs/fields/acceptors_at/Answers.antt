@@ -1,4 +1,3 @@
-use borrow.Author.Rules.{rules}
 use Rattle.layouts.proofs.fields.acceptors_at.Goals as goal
 
 pub returns : goal.returns

@@ -1,6 +1,5 @@
 use Prim.Native.Nat.{◌+◌}
 use native.Mathlib.Omega.{arith}
-use borrow.Author.Rules.{rules}
 use Rattle.layouts.proofs.Words.{word_small, word-join}
 use Rattle.layouts.proofs.fields.eight_at.Goals as goal
 

@@ -1,7 +1,6 @@
 use Prim.Native.Nat.{◌<◌, ◌^◌}
 use native.Mathlib.Omega.{arith}
 use borrow.Author.Tests.{eq-eqb, ne_eqb}
-use borrow.Author.Rules.{rules}
 use Rattle.sets.specs.Scans.{most_scans}
 use Rattle.sets.proofs.ScanLaws.{fits-first}
 use Rattle.layouts.specs.Layout.{word_at, set_at, is_set}

@@ -1,5 +1,4 @@
 use native.Mathlib.Omega.{arith}
-use borrow.Author.Rules.{rules}
 use Rattle.layouts.proofs.Words.{word_small}
 use Rattle.layouts.proofs.fields.number_at.Goals as goal
 

@@ -1,6 +1,5 @@
 use mathlib.Core.Path.{sym}
 use lib.Seq.{set_out}
-use borrow.Author.Rules.{rules}
 use Rattle.layouts.proofs.fields.put_byte.Goals as goal
 
 pub returns-else-at-bytes : goal.returns-else-at-bytes

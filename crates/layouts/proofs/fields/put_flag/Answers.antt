@@ -1,5 +1,4 @@
 use mathlib.Core.Path.{◌∙◌}
-use borrow.Author.Rules.{rules}
 use Rattle.layouts.proofs.Parts.{stored-flag}
 use Rattle.layouts.proofs.fields.put_flag.Goals as goal
 

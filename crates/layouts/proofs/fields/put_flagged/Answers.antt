@@ -2,7 +2,6 @@ use mathlib.Core.List.{List}
 use mathlib.Core.Path.{ap, ◌∙◌}
 use Prim.Native.Nat.{ℕ}
 use lib.Seq.{sets}
-use borrow.Author.Rules.{rules}
 use Rattle.layouts.specs.Layout.{set_bytes}
 use Rattle.layouts.proofs.fields.put_flagged.Goals as goal
 

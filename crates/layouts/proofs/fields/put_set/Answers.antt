@@ -1,7 +1,6 @@
 use mathlib.Core.Path.{ap, ◌∙◌}
 use Prim.Native.Nat.{ℕ}
 use lib.Seq.{sets}
-use borrow.Author.Rules.{rules}
 use Rattle.layouts.specs.Layout.{word_bytes}
 use Rattle.layouts.proofs.fields.put_set.Goals as goal
 

@@ -3,7 +3,6 @@ use Prim.Native.Nat.{ℕ, ◌/◌, ◌%◌}
 use native.Mathlib.Numerals.{add-one}
 use native.Mathlib.Omega.{arith}
 use lib.ListN.{set, length-set}
-use borrow.Author.Rules.{rules}
 use Rattle.layouts.specs.Layout.{word_bytes}
 use Rattle.layouts.proofs.fields.put_two.Goals as goal
 

@@ -1,8 +1,6 @@
 -- `layouts::fields::put_word` meets its contract: byte by byte from the lowest on. The measure is how many are left.
-use Prim.Native.Nat.{◌-◌}
 use native.Mathlib.Omega.{arith}
-use borrow.Author.Rules.{rules}
-use Rattle.layouts.proofs.Words.{Putting, put-none, put_next, put_all}
+use Rattle.layouts.proofs.Words.{put-none, put_next, put_all}
 use Rattle.layouts.proofs.fields.put_word.Goals as goal
 
 pub loop-i-init : goal.loop-i-init

@@ -1,7 +1,5 @@
 use Prim.Native.Nat.{◌-◌}
-use native.Mathlib.Omega.{arith}
-use borrow.Author.Rules.{rules}
-use Rattle.layouts.proofs.Words.{Putting, put-none, put_next, put_all}
+use Rattle.layouts.proofs.Words.{Putting}
 use Rattle.layouts.proofs.fields.put_word.Given as goal
 
 abbrev pub invariant-loop-i : goal.invariant-loop-i

@@ -1,6 +1,5 @@
 use mathlib.Core.Path.{ap, ◌∙◌}
 use Rattle.sets.specs.Scans.{of_first_word}
-use borrow.Author.Rules.{rules}
 use Rattle.layouts.proofs.fields.set_at.Goals as goal
 
 pub returns : goal.returns

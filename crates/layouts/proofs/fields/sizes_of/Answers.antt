@@ -1,4 +1,3 @@
-use borrow.Author.Rules.{rules}
 use Rattle.layouts.proofs.fields.sizes_of.Goals as goal
 
 pub returns : goal.returns

@@ -2,8 +2,7 @@
 use mathlib.Core.Path.{◌≡◌}
 use Prim.Native.Nat.{◌+◌, ◌-◌}
 use native.Mathlib.Omega.{arith}
-use borrow.Author.Rules.{rules}
-use Rattle.layouts.proofs.Words.{Taken, taken_none, taken-room, taken_next, taken-all}
+use Rattle.layouts.proofs.Words.{taken_none, taken-room, taken_next, taken-all}
 use Rattle.layouts.proofs.fields.word_at.Goals as goal
 
 pub loop-left-init : goal.loop-left-init

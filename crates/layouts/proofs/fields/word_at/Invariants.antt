@@ -1,8 +1,4 @@
-use mathlib.Core.Path.{◌≡◌}
-use Prim.Native.Nat.{◌+◌, ◌-◌}
-use native.Mathlib.Omega.{arith}
-use borrow.Author.Rules.{rules}
-use Rattle.layouts.proofs.Words.{Taken, taken_none, taken-room, taken_next, taken-all}
+use Rattle.layouts.proofs.Words.{Taken}
 use Rattle.layouts.proofs.fields.word_at.Given as goal
 
 abbrev pub invariant-loop-left : goal.invariant-loop-left

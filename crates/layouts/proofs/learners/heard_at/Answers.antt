@@ -1,4 +1,3 @@
-use borrow.Author.Rules.{rules}
 use Rattle.layouts.specs.Layout.{heard_at}
 use Rattle.layouts.proofs.learners.heard_at.Goals as goal
 

@@ -1,7 +1,6 @@
 use mathlib.Core.Path.{sym, ap, ◌∙◌}
 use native.Mathlib.Omega.{arith}
 use borrow.Author.Tests.{eq-eqb, ne_eqb}
-use borrow.Author.Rules.{rules}
 use Rattle.sets.specs.Scans.{fits}
 use Rattle.sizes.specs.declared.Sizes.{Sizes}
 use Rattle.model.specs.Ranges.{all, heard_in_range}

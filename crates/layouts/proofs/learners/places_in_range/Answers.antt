@@ -1,6 +1,6 @@
 -- `layouts::learners::places_in_range` meets its contract: the first i places are tested. The measure is how many are left.
 use mathlib.Core.Path.{◌≡◌, ap, ◌∙◌}
-use Prim.Native.Nat.{ℕ, ◌-◌, ◌≤◌}
+use Prim.Native.Nat.{ℕ}
 use native.Mathlib.Omega.{arith}
 use borrow.Author.Rules.{rules}
 use Rattle.model.specs.Ranges.{all, heard_in_range}

@@ -1,11 +1,7 @@
-use mathlib.Core.Path.{◌≡◌, ap, ◌∙◌}
-use Prim.Native.Nat.{ℕ, ◌-◌, ◌≤◌}
-use native.Mathlib.Omega.{arith}
-use borrow.Author.Rules.{rules}
+use mathlib.Core.Path.{◌≡◌}
+use Prim.Native.Nat.{◌-◌, ◌≤◌}
 use Rattle.model.specs.Ranges.{all, heard_in_range}
-use Rattle.model.specs.declared.Heard.{Heard}
 use Rattle.layouts.specs.Layout.{places_at}
-use Rattle.layouts.proofs.Places.{test-place}
 use Rattle.layouts.proofs.learners.places_in_range.Given as goal
 
 abbrev pub invariant-loop-i : goal.invariant-loop-i

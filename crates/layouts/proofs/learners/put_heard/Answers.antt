@@ -1,7 +1,6 @@
 use mathlib.Core.Path.{ap, ◌∙◌}
 use Prim.Native.Nat.{ℕ}
 use lib.Seq.{sets}
-use borrow.Author.Rules.{rules}
 use Rattle.layouts.specs.Layout.{heard_bytes}
 use Rattle.layouts.proofs.Places.{put-heard-fields}
 use Rattle.layouts.proofs.learners.put_heard.Goals as goal

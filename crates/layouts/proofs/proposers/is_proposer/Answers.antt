@@ -1,5 +1,4 @@
 use borrow.Author.Tests.{eq-eqb, ne_eqb}
-use borrow.Author.Rules.{rules}
 use Rattle.layouts.specs.Layout.{is_proposer}
 use Rattle.layouts.proofs.Parts.{passed, failed}
 use Rattle.layouts.proofs.Wide.{sizes-tested, narrowed-same}

@@ -1,4 +1,3 @@
-use borrow.Author.Rules.{rules}
 use Rattle.layouts.specs.Layout.{proposer_at}
 use Rattle.layouts.proofs.proposers.proposer_at.Goals as goal
 

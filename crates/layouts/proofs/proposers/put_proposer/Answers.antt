@@ -1,4 +1,3 @@
-use borrow.Author.Rules.{rules}
 use Rattle.layouts.proofs.Parts.{put-fields}
 use Rattle.layouts.proofs.proposers.put_proposer.Goals as goal
 

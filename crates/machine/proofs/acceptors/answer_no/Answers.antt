@@ -1,7 +1,5 @@
 use mathlib.Core.Path.{sym, ◌∙◌}
 use native.Mathlib.Omega.{arith}
-use borrow.Author.Rules.{rules}
-use borrow.Author.Tests.{not-true, not-false}
 use Rattle.sizes.proofs.SizeLaws.{scans-ranged}
 use Rattle.machine.specs.Acceptors.{answering_no}
 use Rattle.machine.proofs.acceptors.answer_no.Goals as goal

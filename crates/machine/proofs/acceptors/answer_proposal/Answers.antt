@@ -1,4 +1,4 @@
-use Rattle.std.proofs.Common.{◌≡◌, ◌∙◌, ap}
+use Rattle.std.proofs.Common.{◌∙◌, ap}
 use Rattle.machine.specs.Acceptors.{reply_no}
 use Rattle.machine.proofs.Replies.{reply-number}
 use Rattle.machine.proofs.acceptors.answer_proposal.Goals as goal

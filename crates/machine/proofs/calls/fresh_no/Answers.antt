@@ -1,5 +1,4 @@
 use mathlib.Core.Path.{sym, ◌∙◌}
-use borrow.Author.Rules.{rules}
 use Rattle.machine.proofs.calls.fresh_no.Goals as goal
 
 pub returns-then-sized : goal.returns-then-sized

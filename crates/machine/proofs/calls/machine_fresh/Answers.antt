@@ -1,8 +1,8 @@
-use Rattle.std.proofs.Common.{◌≡◌, ◌∙◌, ap, ℕ}
+use Rattle.std.proofs.Common.{◌∙◌, ap, ℕ}
 use Rattle.model.specs.Records.{fresh_proposer, fresh_acceptor, fresh_learner, free_slot}
 use Rattle.machine.specs.Counting.{turns_of}
 use Rattle.machine.proofs.Filled.{filled}
-use Rattle.machine.proofs.CallLaws.{refused-fresh, proposers-there, acceptors-there, learners-there, slots-there, fresh-proposers, fresh-acceptors, fresh-learners, fresh-slots}
+use Rattle.machine.proofs.CallLaws.{refused-fresh, fresh-proposers, fresh-acceptors, fresh-learners, fresh-slots}
 use Rattle.machine.proofs.calls.machine_fresh.Goals as goal
 
 pub returns : goal.returns

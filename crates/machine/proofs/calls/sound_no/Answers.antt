@@ -1,5 +1,4 @@
 use mathlib.Core.Path.{sym, ◌∙◌}
-use borrow.Author.Rules.{rules}
 use Rattle.machine.proofs.calls.sound_no.Goals as goal
 
 pub returns-then-both : goal.returns-then-both

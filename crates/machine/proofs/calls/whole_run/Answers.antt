@@ -1,4 +1,4 @@
-use Rattle.std.proofs.Common.{◌≡◌, refl, sym, ◌∙◌, ap, subst, ℕ, ◌≤◌, List, Bool, true, length, drop, replicate, ◌++◌, leb}
+use Rattle.std.proofs.Common.{◌≡◌, refl, sym, ◌∙◌, ap, subst, ℕ, ◌≤◌, List, true, drop, replicate, ◌++◌, leb}
 use Rattle.sizes.specs.Sizes.{sizes_in_range}
 use Rattle.sizes.specs.Events.{most_events}
 use Rattle.sizes.specs.declared.Sizes.{Sizes}
@@ -7,11 +7,10 @@ use Rattle.model.specs.declared.Proposer.{Proposer}
 use Rattle.model.specs.declared.Acceptor.{Acceptor}
 use Rattle.model.specs.declared.Learner.{Learner}
 use Rattle.model.specs.declared.Message.{Message}
-use Rattle.decisions.specs.Sending.{is_taken}
 use Rattle.machine.specs.Slots.{taken_slot}
 use Rattle.machine.specs.Calls.{lent, has_numbers, whole_run_no}
 use Rattle.machine.specs.Counting.{turns_of, whole_no}
-use Rattle.machine.specs.Running.{Ran, Drives, driven}
+use Rattle.machine.specs.Running.{Drives, driven}
 use Rattle.machine.proofs.Longer.{FreshFirst, slots-few, whole-run-first, whole-run-drives, whole-run-log}
 use Rattle.machine.proofs.calls.whole_run.Goals as goal
 use Rattle.machine.proofs.calls.whole_run.Goals.{After-slots_if-slots, After-fill_messages}

@@ -1,4 +1,4 @@
-use Rattle.std.proofs.Common.{◌≡◌, refl, sym, ◌∙◌, ap, ◌&&◌, drop, ◌+◌, Bool}
+use Rattle.std.proofs.Common.{refl, sym, ◌∙◌, ap, ◌&&◌, drop, ◌+◌, Bool}
 use Rattle.model.specs.Ranges.{all, acceptor_in_range}
 use Rattle.machine.proofs.Judging.{all-on, all-off}
 use Rattle.machine.proofs.lent.acceptors_in_range.Goals as goal

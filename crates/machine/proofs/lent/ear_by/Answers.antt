@@ -1,7 +1,7 @@
-use Rattle.std.proofs.Common.{◌≡◌, ◌∙◌, ap, ◌<◌, arith}
+use Rattle.std.proofs.Common.{◌∙◌, ap, arith}
 use Rattle.std.proofs.lemmas.List.{get_or_default}
 use Rattle.model.specs.Records.{fresh_learner}
-use Rattle.machine.specs.Roles.{place_of, ear_of}
+use Rattle.machine.specs.Roles.{ear_of}
 use Rattle.machine.proofs.Heards.{place-below, ear-told}
 use Rattle.machine.proofs.lent.ear_by.Goals as goal
 

@@ -1,5 +1,4 @@
 use borrow.Author.Tests.{lt-ltb, le-ltb}
-use borrow.Author.Rules.{rules}
 use Rattle.machine.proofs.lent.ear_of.Goals as goal
 
 pub returns-then-p-lt8 : goal.returns-then-p-lt8

@@ -1,5 +1,4 @@
 use Rattle.std.proofs.Common.{◌≡◌, refl, ◌∙◌, ap, set, arith}
-use Rattle.model.specs.Records.{free_slot}
 use Rattle.machine.proofs.Filled.{filled, filled_next}
 use Rattle.machine.proofs.lent.fill_messages.Goals as goal
 

@@ -1,4 +1,3 @@
-use borrow.Author.Rules.{rules}
 use Rattle.machine.proofs.lent.is_taken.Goals as goal
 
 pub returns : goal.returns

@@ -1,5 +1,4 @@
 use mathlib.Core.Path.{sym, ◌∙◌}
-use borrow.Author.Rules.{rules}
 use Rattle.machine.proofs.lent.left_after.Goals as goal
 
 pub returns-then-is_free : goal.returns-then-is_free

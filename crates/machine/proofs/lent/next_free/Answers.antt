@@ -1,4 +1,4 @@
-use Rattle.std.proofs.Common.{◌≡◌, refl, sym, ◌∙◌, ap, subst, ◌+◌, ◌<◌, length, get_or, not, arith, true, Bool}
+use Rattle.std.proofs.Common.{◌≡◌, sym, ◌∙◌, subst, ◌+◌, get_or, not, Bool}
 use Rattle.std.proofs.lemmas.List.{get_or_default}
 use lib.Dec.{T as Holds}
 use Rattle.model.specs.Records.{free_slot}

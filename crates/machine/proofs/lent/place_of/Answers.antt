@@ -1,5 +1,4 @@
 use borrow.Author.Tests.{lt-ltb, le-ltb}
-use borrow.Author.Rules.{rules}
 use Rattle.machine.specs.Roles.{place_of}
 use Rattle.machine.proofs.lent.place_of.Goals as goal
 

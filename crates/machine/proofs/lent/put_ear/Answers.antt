@@ -1,7 +1,7 @@
-use Rattle.std.proofs.Common.{◌≡◌, ◌∙◌, ap, ◌<◌, ◌*◌, arith, length, set, get_or}
+use Rattle.std.proofs.Common.{◌∙◌, ap, arith, set, get_or}
 use Rattle.std.proofs.lemmas.List.{get_or_default}
 use Rattle.model.specs.Records.{fresh_learner}
-use Rattle.machine.specs.Roles.{place_of, ear_of, put_ear}
+use Rattle.machine.specs.Roles.{put_ear}
 use Rattle.machine.proofs.Heards.{place-below, ear-held, stored-thrice}
 use Rattle.machine.proofs.lent.put_ear.Goals as goal
 

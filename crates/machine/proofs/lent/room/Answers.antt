@@ -1,8 +1,7 @@
-use Rattle.std.proofs.Common.{◌≡◌, sym, ◌∙◌, ap, subst, true, ◌+◌, ◌<◌, length, drop, not, Bool}
+use Rattle.std.proofs.Common.{sym, ◌∙◌, ap, subst, ◌+◌, length, drop, not}
 use lib.Dec.{T as Holds}
-use Rattle.model.specs.Records.{free_slot}
 use Rattle.decisions.specs.Sending.{lacking}
-use Rattle.machine.specs.Slots.{left_after, searching}
+use Rattle.machine.specs.Slots.{searching}
 use Rattle.machine.proofs.Searching.{room-on, room-off, searching-inside}
 use Rattle.machine.proofs.lent.room.Goals as goal
 

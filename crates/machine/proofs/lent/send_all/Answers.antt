@@ -1,4 +1,4 @@
-use Rattle.std.proofs.Common.{◌≡◌, refl, sym, ◌∙◌, ap, subst, ◌+◌, ◌<◌, ◌≤◌, length, set, arith}
+use Rattle.std.proofs.Common.{sym, ◌∙◌, ap, subst, ◌+◌, ◌<◌, length, set, arith}
 use Rattle.machine.specs.Slots.{FreeFrom, lowest_from}
 use Rattle.decisions.specs.Sending.{item_of}
 use Rattle.machine.proofs.Posting.{Sends, begin, last, free, next}

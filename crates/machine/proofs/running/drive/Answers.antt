@@ -1,9 +1,7 @@
-use Rattle.std.proofs.Common.{◌≡◌, refl, sym, ◌∙◌, ap, ◌<◌, arith, ℕ, ◌+◌, length}
+use Rattle.std.proofs.Common.{◌≡◌, ◌∙◌, ap, arith, length}
 use Rattle.model.specs.declared.Event.{Event}
-use Rattle.machine.specs.Stepping.{Fits, step_of}
 use Rattle.machine.specs.Running.{Ran, onward, ran_to}
 use Rattle.machine.specs.Log.{noted}
-use Rattle.machine.specs.Calls.{event_of}
 use Rattle.machine.proofs.LoopsOverSteps.{still-fit, event-there, answer-there, ran-none, ran-next, at-end}
 use Rattle.machine.proofs.running.drive.Goals as goal
 

@@ -1,7 +1,6 @@
 use native.Mathlib.Omega.{arith}
 use native.Mathlib.Numerals.{add-one}
 use lib.ListN.{length-set}
-use borrow.Author.Rules.{rules}
 use Rattle.machine.proofs.running.note.Goals as goal
 
 pub bounds-log-at-2 : goal.bounds-log-at-2

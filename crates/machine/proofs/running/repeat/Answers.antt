@@ -1,5 +1,5 @@
-use Rattle.std.proofs.Common.{◌≡◌, refl, sym, ◌∙◌, ap, ◌<◌, arith, ℕ, ◌+◌}
-use Rattle.machine.specs.Stepping.{Left, Fits, step_of}
+use Rattle.std.proofs.Common.{◌≡◌, ◌∙◌, ap, arith}
+use Rattle.machine.specs.Stepping.{Left, step_of}
 use Rattle.machine.specs.Running.{untouched, times_from}
 use Rattle.machine.proofs.LoopsOverSteps.{still-fit, times_none, times-next, at-end}
 use Rattle.machine.proofs.running.repeat.Goals as goal

@@ -1,4 +1,3 @@
-use borrow.Author.Rules.{rules}
 use Rattle.machine.specs.Log.{said_no}
 use Rattle.machine.proofs.running.said_no.Goals as goal
 

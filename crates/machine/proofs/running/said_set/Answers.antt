@@ -1,4 +1,3 @@
-use borrow.Author.Rules.{rules}
 use Rattle.machine.specs.Log.{said_set}
 use Rattle.machine.proofs.running.said_set.Goals as goal
 

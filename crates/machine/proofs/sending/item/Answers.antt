@@ -1,7 +1,6 @@
 use mathlib.Core.Path.{◌≡◌, refl}
 use Prim.Native.Nat.{ℕ, zero, suc}
 use Rattle.decisions.specs.Sending.{alone, shape_of, item_of}
-use borrow.Author.Rules.{rules}
 use Rattle.machine.proofs.sending.item.Goals as goal
 
 -- any other shape is the message alone

@@ -1,4 +1,3 @@
-use borrow.Author.Rules.{rules}
 use Rattle.machine.proofs.step.finish_proposer.Goals as goal
 
 pub returns : goal.returns

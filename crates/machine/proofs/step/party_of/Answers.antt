@@ -3,7 +3,6 @@ use Prim.Native.Nat.{ℕ, zero, suc}
 use Rattle.model.specs.declared.Event.{Event}
 use Rattle.model.specs.declared.Message.{Message}
 use Rattle.machine.specs.Stepping.{party_at, party_of}
-use borrow.Author.Rules.{rules}
 use Rattle.machine.proofs.step.party_of.Goals as goal
 
 other-party : (e : Event) (m : Message) (n : ℕ) → (n ≡ 2 → ⊥) → (n ≡ 8 → ⊥) → e.a ≡ party_of (record { code = n; a = e.a; b = e.b }) m

@@ -1,26 +1,21 @@
-use Rattle.std.proofs.Common.{◌≡◌, refl, sym, ◌∙◌, ap, subst, ℕ, ◌<◌, List, length, get_or, set, []}
+use Rattle.std.proofs.Common.{◌≡◌, sym, ◌∙◌, ap, subst, ℕ, ◌<◌, List, length, get_or, set, []}
 use Rattle.sizes.proofs.SizeLaws.{bounds}
-use Rattle.model.specs.Records.{fresh_proposer, fresh_acceptor, fresh_learner, free_slot}
+use Rattle.model.specs.Records.{fresh_proposer, fresh_acceptor, fresh_learner}
 use Rattle.model.specs.Table.{post}
 use Rattle.model.specs.declared.Message.{Message}
-use Rattle.model.specs.declared.Proposer.{Proposer}
 use Rattle.model.specs.declared.Acceptor.{Acceptor}
-use Rattle.model.specs.declared.Learner.{Learner}
 use Rattle.decisions.specs.Sending.{items_of, lacking}
 use Rattle.decisions.specs.declared.sending.Send.{Send}
 use Rattle.decisions.specs.declared.arms.Decision.{Decision}
-use Rattle.decisions.specs.declared.arms.Ear.{Ear}
-use Rattle.decisions.specs.declared.arms.Listened.{Listened}
 use Rattle.decisions.specs.Change.{slot_after}
-use Rattle.decisions.specs.Arms.{decide_of, finish_of, decided_in, told_in, plain_answer, heard_in, listen_of}
-use Rattle.decisions.proofs.Deciding.{decided-in, told_in_lem, heard-in}
+use Rattle.decisions.specs.Arms.{decide_of, finish_of, decided_in, plain_answer}
+use Rattle.decisions.proofs.Deciding.{decided-in}
 use Rattle.machine.specs.Slots.{Ready}
 use Rattle.machine.specs.Stepping.{index_in, party_of}
-use Rattle.machine.specs.Roles.{ear_of, put_ear, finished_at, step_at}
+use Rattle.machine.specs.Roles.{finished_at}
 use Rattle.machine.proofs.Readiness.{within_in}
 use Rattle.machine.proofs.Roles.{not-of, quiet-finished}
-use Rattle.machine.proofs.Arms.{ready_at, said-as, told-says, told-left, told-slots, told-quiet}
-use Rattle.machine.proofs.Ears.{ear-says, ear-left, ear-slots}
+use Rattle.machine.proofs.Arms.{ready_at, said-as}
 use Rattle.machine.proofs.step.step_acceptor.Goals as goal
 use Rattle.machine.proofs.step.step_acceptor.Goals.{After-acceptor_at-ai, After-send_in-s}
 

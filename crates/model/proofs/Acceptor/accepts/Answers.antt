@@ -1,4 +1,3 @@
-use borrow.Author.Rules.{rules}
 use Rattle.model.specs.Rules.{accepts}
 use Rattle.model.proofs.Acceptor.accepts.Goals as goal
 

@@ -1,5 +1,4 @@
 use mathlib.Core.Path.{sym, ◌∙◌}
-use borrow.Author.Rules.{rules}
 use Rattle.model.specs.Rules.{accepting, gaining, answering}
 use Rattle.model.proofs.Acceptor.answer.Goals as goal
 

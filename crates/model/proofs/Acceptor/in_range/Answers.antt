@@ -1,4 +1,3 @@
-use borrow.Author.Rules.{rules}
 use Rattle.model.specs.Ranges.{acceptor_in_range}
 use Rattle.model.proofs.Acceptor.in_range.Goals as goal
 

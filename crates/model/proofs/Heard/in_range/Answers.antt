@@ -1,4 +1,3 @@
-use borrow.Author.Rules.{rules}
 use Rattle.model.specs.Ranges.{heard_in_range}
 use Rattle.model.proofs.Heard.in_range.Goals as goal
 

@@ -1,4 +1,3 @@
-use borrow.Author.Rules.{rules}
 use Rattle.model.proofs.Learner.fresh.Goals as goal
 
 pub returns : goal.returns

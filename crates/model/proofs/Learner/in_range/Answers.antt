@@ -1,13 +1,10 @@
-use mathlib.Core.Path.{◌≡◌, sym, ap, ◌∙◌}
-use Prim.Native.Nat.{◌-◌}
+use mathlib.Core.Path.{sym, ap, ◌∙◌}
 use native.Mathlib.Omega.{arith}
-use lib.ListN.{take, drop, length-take}
+use lib.ListN.{take, length-take}
 use lib.Seq.{get_or-take}
-use borrow.Author.Rules.{rules}
-use borrow.Author.Tests.{not-true, not-false}
 use Rattle.sets.specs.Acceptors.{none}
 use Rattle.sets.specs.Scans.{empty}
-use Rattle.model.specs.Ranges.{all, heard_in_range, learner_in_range}
+use Rattle.model.specs.Ranges.{heard_in_range, learner_in_range}
 use Rattle.model.specs.Records.{unheard}
 use Rattle.model.proofs.Everywhere.{past, passes, fails}
 use Rattle.model.proofs.Learner.in_range.Goals as goal

@@ -1,15 +1,7 @@
-use mathlib.Core.Path.{◌≡◌, sym, ap, ◌∙◌}
+use mathlib.Core.Path.{◌≡◌}
 use Prim.Native.Nat.{◌-◌}
-use native.Mathlib.Omega.{arith}
-use lib.ListN.{take, drop, length-take}
-use lib.Seq.{get_or-take}
-use borrow.Author.Rules.{rules}
-use borrow.Author.Tests.{not-true, not-false}
-use Rattle.sets.specs.Acceptors.{none}
-use Rattle.sets.specs.Scans.{empty}
+use lib.ListN.{take, drop}
 use Rattle.model.specs.Ranges.{all, heard_in_range, learner_in_range}
-use Rattle.model.specs.Records.{unheard}
-use Rattle.model.proofs.Everywhere.{past, passes, fails}
 use Rattle.model.proofs.Learner.in_range.Given as goal
 
 -- what is left to say is said by the places from i on

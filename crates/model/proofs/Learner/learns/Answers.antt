@@ -1,4 +1,3 @@
-use borrow.Author.Rules.{rules}
 use Rattle.model.specs.Rules.{learns}
 use Rattle.model.proofs.Learner.learns.Goals as goal
 

@@ -1,4 +1,3 @@
-use borrow.Author.Rules.{rules}
 use Rattle.model.specs.Ranges.{fields_in_range}
 use Rattle.model.proofs.Message.answers_in_range.Goals as goal
 

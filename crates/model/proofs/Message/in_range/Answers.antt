@@ -3,7 +3,6 @@ use mathlib.Core.Path.{◌≡◌}
 use Prim.Native.Nat.{ℕ, ◌<◌}
 use native.Mathlib.Omega.{arith}
 use lib.ListN.{get_or-eq_default}
-use borrow.Author.Rules.{rules}
 use Rattle.model.specs.Ranges.{message_in_range, fields_in_range}
 use Rattle.model.specs.Records.{free, internal, proposal, acknowledgement, rejection, announcement, no_kind, kind_of}
 use Rattle.model.proofs.Message.in_range.Goals as goal

@@ -1,4 +1,3 @@
-use borrow.Author.Rules.{rules}
 use Rattle.model.specs.Rules.{acknowledging}
 use Rattle.model.proofs.Proposer.acknowledge.Goals as goal
 

@@ -1,4 +1,3 @@
-use borrow.Author.Rules.{rules}
 use Rattle.model.specs.Rules.{buffering}
 use Rattle.model.proofs.Proposer.buffer.Goals as goal
 

@@ -1,4 +1,3 @@
-use borrow.Author.Rules.{rules}
 use Rattle.model.specs.Rules.{after_decide, deciding}
 use Rattle.model.proofs.Enabled.{is_zero, not-zero}
 use Rattle.model.proofs.Proposer.decide.Goals as goal

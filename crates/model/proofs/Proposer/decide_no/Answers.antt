@@ -1,4 +1,3 @@
-use borrow.Author.Rules.{rules}
 use Rattle.model.specs.Rules.{decide_no}
 use Rattle.model.proofs.Proposer.decide_no.Goals as goal
 

@@ -1,4 +1,3 @@
-use borrow.Author.Rules.{rules}
 use Rattle.model.specs.Ranges.{proposer_in_range}
 use Rattle.model.proofs.Proposer.in_range.Goals as goal
 

@@ -1,4 +1,3 @@
-use borrow.Author.Rules.{rules}
 use Rattle.model.specs.Rules.{is_current}
 use Rattle.model.proofs.Proposer.is_current.Goals as goal
 

@@ -1,4 +1,3 @@
-use borrow.Author.Rules.{rules}
 use Rattle.model.specs.Rules.{may_decide}
 use Rattle.model.proofs.Proposer.may_decide.Goals as goal
 

@@ -1,4 +1,3 @@
-use borrow.Author.Rules.{rules}
 use Rattle.model.specs.Rules.{may_refine}
 use Rattle.model.proofs.Proposer.may_refine.Goals as goal
 

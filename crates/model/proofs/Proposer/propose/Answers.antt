@@ -1,6 +1,5 @@
 use mathlib.Core.Path.{sym, ◌∙◌}
 use native.Mathlib.Omega.{arith}
-use borrow.Author.Rules.{rules}
 use Rattle.model.specs.Rules.{may_propose, propose_no, after_propose, proposing}
 use Rattle.model.proofs.Enabled.{below-greatest, is_zero, not-zero}
 use Rattle.model.proofs.Proposer.propose.Goals as goal

@@ -1,4 +1,3 @@
-use borrow.Author.Rules.{rules}
 use Rattle.model.specs.Rules.{propose_no}
 use Rattle.model.proofs.Proposer.propose_no.Goals as goal
 

@@ -1,6 +1,5 @@
 use mathlib.Core.Path.{sym, ◌∙◌}
 use native.Mathlib.Omega.{arith}
-use borrow.Author.Rules.{rules}
 use Rattle.model.specs.Rules.{may_refine, refine_no, after_refine, refining}
 use Rattle.model.proofs.Enabled.{below-greatest, is_zero, not-zero}
 use Rattle.model.proofs.Proposer.refine.Goals as goal

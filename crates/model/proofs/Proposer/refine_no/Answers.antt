@@ -1,4 +1,3 @@
-use borrow.Author.Rules.{rules}
 use Rattle.model.specs.Rules.{refine_no}
 use Rattle.model.proofs.Proposer.refine_no.Goals as goal
 

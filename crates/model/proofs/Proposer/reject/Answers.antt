@@ -1,4 +1,3 @@
-use borrow.Author.Rules.{rules}
 use Rattle.model.specs.Rules.{rejecting}
 use Rattle.model.proofs.Proposer.reject.Goals as goal
 

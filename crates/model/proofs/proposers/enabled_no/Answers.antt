@@ -1,4 +1,3 @@
-use borrow.Author.Tests.{not-true, not-false}
 use Rattle.model.proofs.proposers.enabled_no.Goals as goal
 
 pub returns-then-not-alive : goal.returns-then-not-alive

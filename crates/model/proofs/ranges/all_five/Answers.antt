@@ -1,4 +1,3 @@
-use borrow.Author.Rules.{rules}
 use Rattle.model.proofs.ranges.all_five.Goals as goal
 
 pub returns : goal.returns

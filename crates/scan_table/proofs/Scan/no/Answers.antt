@@ -3,7 +3,6 @@ use mathlib.Core.Path.{◌≡◌, sym, ◌∙◌}
 use Rattle.scan_table.specs.Table.{tag_no, shelf_no, device_no, time_no}
 use Rattle.choice.proofs.Tests.{stands}
 use Rattle.scan_table.proofs.Testing.{four-no}
-use borrow.Author.Rules.{rules}
 use Rattle.scan_table.proofs.Scan.no.Goals as goal
 
 pub returns-then-tag-ne0 : goal.returns-then-tag-ne0

@@ -1,5 +1,4 @@
 -- `scan_table::Scan::tested_no` meets its contract. Assumes nothing.
-use borrow.Author.Rules.{rules}
 use Rattle.scan_table.proofs.Scan.tested_no.Goals as goal
 
 pub returns-then-written : goal.returns-then-written

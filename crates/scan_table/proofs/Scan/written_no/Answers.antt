@@ -3,7 +3,6 @@ use Rattle.numbers.specs.declared.Limit.TheVariants.{Table}
 use Rattle.forms.specs.Forms.{as_read}
 use Rattle.scan_table.specs.Table.{tag_no, shelf_no, device_no, time_no}
 use Rattle.scan_table.proofs.Testing.{number-no, first-of-four}
-use borrow.Author.Rules.{rules}
 use Rattle.scan_table.proofs.Scan.written_no.Goals as goal
 
 pub returns : goal.returns

@@ -1,6 +1,5 @@
 use mathlib.Core.Bool.{Bool, ◌&&◌}
 use mathlib.Core.Path.{◌≡◌}
-use borrow.Author.Rules.{rules}
 use Rattle.sets.specs.Acceptors.{most_acceptors}
 use Rattle.sizes.specs.Sizes.{between, scans_in_range, sizes_in_range}
 use Rattle.sizes.specs.declared.Sizes.{Sizes}

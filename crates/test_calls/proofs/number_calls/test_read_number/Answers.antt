@@ -2,7 +2,6 @@ use mathlib.Core.Path.{sym, ap, ◌∙◌}
 use Rattle.numbers.specs.Coding.{read_number, read_no, read_value, read_next}
 use Rattle.numbers.specs.declared.Limit.{Limit}
 use Rattle.numbers.specs.declared.Read.{Read}
-use borrow.Author.Rules.{rules}
 use Rattle.test_calls.proofs.number_calls.test_read_number.Goals as goal
 
 pub returns-in-Number : goal.returns-in-Number

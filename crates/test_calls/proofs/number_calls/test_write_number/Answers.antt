@@ -2,7 +2,6 @@ use mathlib.Core.Path.{sym, ap, ◌∙◌}
 use Rattle.numbers.specs.Coding.{number_written_no, number_written, after_number, written_no, written_next}
 use Rattle.numbers.specs.declared.Limit.{Limit}
 use Rattle.numbers.specs.declared.Written.{Written}
-use borrow.Author.Rules.{rules}
 use Rattle.test_calls.proofs.number_calls.test_write_number.Goals as goal
 
 pub returns-in-Next : goal.returns-in-Next

@@ -1,7 +1,6 @@
 use mathlib.Core.Path.{sym, ap, ◌∙◌}
 use Rattle.schedule.specs.Schedule.{numbers_of, schedule_read_no, schedule_header}
 use Rattle.schedule.specs.declared.ScheduleRead.{ScheduleRead}
-use borrow.Author.Rules.{rules}
 use Rattle.test_calls.proofs.schedule_calls.test_read_schedule.Goals as goal
 
 pub returns-in-Events : goal.returns-in-Events

@@ -1,6 +1,5 @@
 use mathlib.Core.Path.{sym, ap, ◌∙◌}
 use Rattle.numbers.specs.Coding.{written_no}
-use borrow.Author.Rules.{rules}
 use Rattle.test_calls.proofs.schedule_calls.test_write_schedule.Goals as goal
 
 pub returns-in-Next : goal.returns-in-Next

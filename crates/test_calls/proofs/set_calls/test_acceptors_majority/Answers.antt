@@ -1,6 +1,5 @@
 use mathlib.Core.Path.{ap, ◌∙◌}
 use Rattle.test_calls.specs.Words.{bit}
-use borrow.Author.Rules.{rules}
 use Rattle.test_calls.proofs.set_calls.test_acceptors_majority.Goals as goal
 
 pub returns : goal.returns

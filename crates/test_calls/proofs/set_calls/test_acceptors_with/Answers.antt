@@ -1,6 +1,5 @@
 use mathlib.Core.Path.{ap}
 use Rattle.sets.specs.declared.acceptors.Acceptors.{Acceptors}
-use borrow.Author.Rules.{rules}
 use Rattle.test_calls.proofs.set_calls.test_acceptors_with.Goals as goal
 
 pub returns : goal.returns

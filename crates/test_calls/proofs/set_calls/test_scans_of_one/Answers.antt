@@ -1,6 +1,5 @@
 use mathlib.Core.Path.{ap, ◌∙◌}
 use Rattle.sets.specs.Scans.{first_word}
-use borrow.Author.Rules.{rules}
 use Rattle.test_calls.proofs.set_calls.test_scans_of_one.Goals as goal
 
 pub returns : goal.returns

@@ -1,4 +1,3 @@
-use borrow.Author.Rules.{rules}
 use Rattle.test_calls.proofs.set_calls.test_scans_union.Goals as goal
 
 pub returns : goal.returns

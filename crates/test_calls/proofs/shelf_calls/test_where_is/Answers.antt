@@ -1,7 +1,6 @@
 use mathlib.Core.Path.{ap, ◌∙◌}
 use Rattle.sets.specs.declared.scans.Scans.{Scans}
 use Rattle.shelf.specs.Shelf.{where_is, where_is_no}
-use borrow.Author.Rules.{rules}
 use Rattle.test_calls.proofs.shelf_calls.test_where_is.Goals as goal
 
 pub returns : goal.returns

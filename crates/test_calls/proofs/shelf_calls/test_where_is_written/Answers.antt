@@ -2,7 +2,6 @@ use mathlib.Core.Path.{ap, ◌∙◌}
 use Rattle.sets.specs.declared.scans.Scans.{Scans}
 use Rattle.scan_table.specs.Table.{read_table}
 use Rattle.shelf.specs.Shelf.{where_is_written, where_is_written_no}
-use borrow.Author.Rules.{rules}
 use Rattle.test_calls.proofs.shelf_calls.test_where_is_written.Goals as goal
 
 pub returns : goal.returns

@@ -1,4 +1,3 @@
-use borrow.Author.Rules.{rules}
 use Rattle.test_calls.proofs.shelf_calls.told.Goals as goal
 
 pub returns-in-Shown : goal.returns-in-Shown

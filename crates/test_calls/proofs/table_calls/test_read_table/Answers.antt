@@ -1,7 +1,6 @@
 use mathlib.Core.Path.{sym, ap, ◌∙◌}
 use Rattle.scan_table.specs.Table.{table_read_no, table_scans}
 use Rattle.scan_table.specs.declared.TableRead.{TableRead}
-use borrow.Author.Rules.{rules}
 use Rattle.test_calls.proofs.table_calls.test_read_table.Goals as goal
 
 pub returns-in-Scans : goal.returns-in-Scans

@@ -1,7 +1,6 @@
 use mathlib.Core.Path.{sym, ap, ◌∙◌}
 use Rattle.numbers.specs.Coding.{written_no, written_next}
 use Rattle.numbers.specs.declared.Written.{Written}
-use borrow.Author.Rules.{rules}
 use Rattle.test_calls.proofs.table_calls.test_write_table.Goals as goal
 
 pub returns-in-Next : goal.returns-in-Next

@@ -1,6 +1,5 @@
 use mathlib.Core.Path.{sym, ap, ◌∙◌}
 use Rattle.clock.specs.Clock.{clock_no}
-use borrow.Author.Rules.{rules}
 use Rattle.yazhmandu.proofs.clock_call.ymd_clock.Goals as goal
 
 pub returns-in-At : goal.returns-in-At

@@ -1,5 +1,4 @@
 use mathlib.Core.Path.{sym, ap, ◌∙◌}
-use borrow.Author.Rules.{rules}
 use Rattle.schedule.specs.Schedule.{schedule_read_no}
 use Rattle.yazhmandu.proofs.form_calls.ymd_check_schedule.Goals as goal
 

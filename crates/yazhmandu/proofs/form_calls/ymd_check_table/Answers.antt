@@ -1,5 +1,4 @@
 use mathlib.Core.Path.{sym, ap, ◌∙◌}
-use borrow.Author.Rules.{rules}
 use Rattle.scan_table.specs.Table.{table_read_no}
 use Rattle.yazhmandu.proofs.form_calls.ymd_check_table.Goals as goal
 

@@ -5,8 +5,7 @@ use mathlib.Core.Path.{ap, ◌∙◌}
 use Prim.Native.Nat.{ℕ}
 use native.Mathlib.Omega.{arith}
 use lib.Seq.{sets}
-use borrow.Author.Tests.{lt-ltb, le-ltb, not-true, not-false}
-use borrow.Author.Rules.{rules}
+use borrow.Author.Tests.{lt-ltb, le-ltb}
 use Rattle.layouts.specs.Layout.{flagged, is_learner}
 use Rattle.layouts.proofs.Parts.{passed, failed, learner-sizes, few-proposers, few-acceptors, answer-acceptor, answer-number}
 use Rattle.yazhmandu.proofs.Hearing.{not-learner, not-proposer, not_answer, not_set, not-alive, hears}

@@ -1,5 +1,4 @@
 use native.Mathlib.Omega.{arith}
-use borrow.Author.Rules.{rules}
 use borrow.Author.Tests.{not-true, not-false}
 use Rattle.layouts.proofs.Parts.{passed, failed, proposer-sizes, few-acceptors, answer-acceptor, answer-number}
 use Rattle.yazhmandu.proofs.Answered.{acknowledged-no-proposer, acknowledged-no-answer, acknowledged-crashed, acknowledged-late, acknowledged-taken}

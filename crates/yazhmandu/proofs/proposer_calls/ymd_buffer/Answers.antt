@@ -1,6 +1,5 @@
 use borrow.Author.Tests.{not-true, not-false}
 use mathlib.Core.Path.{ap, ◌∙◌}
-use borrow.Author.Rules.{rules}
 use Rattle.model.specs.declared.Proposer.{Proposer}
 use Rattle.layouts.proofs.Parts.{passed, failed, proposer-whole}
 use Rattle.yazhmandu.specs.Calls.{buffer_no, buffer_record}

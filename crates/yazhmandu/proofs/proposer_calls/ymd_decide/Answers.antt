@@ -1,6 +1,5 @@
 use mathlib.Core.Path.{ap, ◌∙◌}
 use native.Mathlib.Omega.{arith}
-use borrow.Author.Rules.{rules}
 use Rattle.sets.specs.Scans.{most_scans}
 use Rattle.model.specs.Rules.{decide_no, deciding, after_decide}
 use Rattle.layouts.proofs.Parts.{passed, failed, proposer-sizes, few-acceptors, few-scans}

@@ -1,5 +1,4 @@
 use mathlib.Core.Path.{ap, ◌∙◌}
-use borrow.Author.Rules.{rules}
 use Rattle.model.specs.Rules.{propose_no, proposing, after_propose}
 use Rattle.layouts.proofs.Parts.{passed, failed}
 use Rattle.yazhmandu.proofs.RuleCalls.{call-refused, rule-refused, rule-done}

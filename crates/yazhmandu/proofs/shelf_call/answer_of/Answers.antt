@@ -1,6 +1,5 @@
 use mathlib.Core.Path.{sym, ◌∙◌}
 use borrow.Author.Tests.{eq-eqb, ne_eqb}
-use borrow.Author.Rules.{rules}
 use Rattle.scan_table.specs.Table.{read_table}
 use Rattle.yazhmandu.specs.Calls.{where_is_bytes}
 use Rattle.yazhmandu.proofs.Unasked.{unasked-table, unasked-refused}

@@ -1,5 +1,4 @@
 use mathlib.Core.Path.{sym, ◌∙◌}
-use borrow.Author.Rules.{rules}
 use Rattle.yazhmandu.proofs.shelf_call.ymd_where_is.Goals as goal
 
 pub returns-in-Nowhere : goal.returns-in-Nowhere

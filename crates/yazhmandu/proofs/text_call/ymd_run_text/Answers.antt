@@ -2,7 +2,6 @@
 use mathlib.Core.Path.{sym, ap, ◌∙◌}
 use Rattle.numbers.specs.Coding.{written_no, written_next}
 use Rattle.numbers.specs.declared.Written.{Written}
-use borrow.Author.Rules.{rules}
 use Rattle.yazhmandu.proofs.text_call.ymd_run_text.Goals as goal
 
 pub returns-in-Next : goal.returns-in-Next

@@ -1,5 +1,4 @@
 use mathlib.Core.Path.{sym}
-use borrow.Author.Rules.{rules}
 use Rattle.sets.specs.Acceptors.{majority, is_majority}
 use Rattle.sets.proofs.acceptors.Acceptors.is_majority_of.Goals as goal
 

@@ -1,5 +1,4 @@
 use mathlib.Core.Path.{sym, ◌∙◌}
-use borrow.Author.Rules.{rules}
 use Rattle.sets.specs.Scans.{strictly_within}
 use Rattle.sets.proofs.scans.Scans.is_strictly_contained_in.Goals as goal
 

@@ -1,5 +1,5 @@
 -- What written forms are made of: numbers of the coding, one after the other, each tested when read.
-use Rattle.std.specs.Prelude.{Bool, true, ◌&&◌, List, [], ◌∷◌, ◌++◌, ℕ, zero, suc, eqb, ltb, leb, length, drop, replicate}
+use Rattle.std.specs.Prelude.{Bool, true, ◌&&◌, List, [], ◌∷◌, ◌++◌, ℕ, zero, suc, ◌+◌, eqb, ltb, leb, length, drop, replicate}
 use Rattle.std.proofs.lemmas.List.Edits.{sets}
 use Rattle.std.specs.Prelude.{if◌then◌else◌}
 use Rattle.choice.specs.Tests.{◌unless◌, refusal, ◌⨾◌, ok}

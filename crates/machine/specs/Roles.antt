@@ -1,5 +1,5 @@
 -- A step by role: one event on a message that is there, of which an arm leaves out the lists that it does not touch; and a learner by one place.
-use Rattle.std.specs.Prelude.{◌≡◌, true, List, ℕ, ◌<◌, ◌≤◌, T as Holds, eqb, ltb, length, get_or, set}
+use Rattle.std.specs.Prelude.{◌≡◌, true, List, [], ℕ, ◌<◌, ◌≤◌, T as Holds, eqb, ltb, length, get_or, set}
 use Rattle.std.specs.Prelude.{if◌then◌else◌}
 use Rattle.sizes.specs.Sizes.{sizes_in_range}
 use Rattle.sizes.specs.declared.Sizes.{Sizes}

@@ -1,4 +1,3 @@
--- `forms::all_within` meets its contract. The loop's invariant: all numbers are within the limit where those are that are left to test. The
 use mathlib.Core.Path.{refl, sym, ◌∙◌}
 use native.Mathlib.Omega.{arith}
 use lib.ListN.{get_or}

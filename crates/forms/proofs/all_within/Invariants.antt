@@ -1,3 +1,5 @@
+-- `forms::all_within` meets its contract. The loop's invariant: all numbers are within the limit where those are that are left to test. The
+-- measure is how many are left. Assumes nothing.
 use mathlib.Core.Path.{◌≡◌}
 use Prim.Native.Nat.{◌≤◌, ◌-◌}
 use lib.ListN.{length, drop}

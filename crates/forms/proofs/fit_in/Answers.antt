@@ -1,4 +1,3 @@
--- `forms::fit_in` meets its contract. The loop's invariant: all the forms have room where those of the numbers that are left have the room that
 use mathlib.Core.Path.{◌≡◌, refl, sym, ◌∙◌}
 use Prim.Native.Nat.{◌+◌}
 use native.Mathlib.Omega.{arith}

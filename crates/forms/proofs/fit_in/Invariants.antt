@@ -1,3 +1,5 @@
+-- `forms::fit_in` meets its contract. The loop's invariant: all the forms have room where those of the numbers that are left have the room that
+-- is left. The measure is how many numbers are left. Assumes nothing.
 use mathlib.Core.Path.{◌≡◌}
 use Prim.Native.Nat.{◌≤◌, ◌-◌}
 use lib.Dec.{leb}

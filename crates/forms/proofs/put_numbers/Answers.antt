@@ -1,4 +1,3 @@
--- `forms::put_numbers` meets its contract. The loop's invariant: the numbers that are left, put from `next` on, make the whole. The measure is how
 use native.Mathlib.Omega.{arith}
 use Rattle.forms.proofs.Putting.{begin, more, last}
 use Rattle.forms.proofs.put_numbers.Goals as goal

@@ -1,3 +1,5 @@
+-- `forms::put_numbers` meets its contract. The loop's invariant: the numbers that are left, put from `next` on, make the whole. The measure is how
+-- many are left. Assumes nothing.
 use Prim.Native.Nat.{◌-◌}
 use lib.ListN.{length}
 use Rattle.forms.proofs.Putting.{Left}

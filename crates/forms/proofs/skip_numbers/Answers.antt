@@ -1,4 +1,3 @@
--- `forms::skip_numbers` meets its contract. The loop's invariant: reading the numbers that are left ends where reading all of them does. The
 use mathlib.Core.Path.{sym, ◌∙◌}
 use native.Mathlib.Omega.{arith}
 use native.Mathlib.Nat.{sub-zero}

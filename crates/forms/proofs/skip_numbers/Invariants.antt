@@ -1,3 +1,5 @@
+-- `forms::skip_numbers` meets its contract. The loop's invariant: reading the numbers that are left ends where reading all of them does. The
+-- measure is how many are left. Assumes nothing.
 use mathlib.Core.Path.{◌≡◌}
 use Prim.Native.Nat.{◌≤◌, ◌-◌}
 use Rattle.forms.specs.Forms.{place_of, plain}

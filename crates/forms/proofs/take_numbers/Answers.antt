@@ -1,4 +1,3 @@
--- `forms::take_numbers` meets its contract. The loop's invariant: storing the numbers that are left makes what storing all of them makes. The
 use mathlib.Core.Path.{refl, sym, ap, ◌∙◌}
 use Prim.Native.Nat.{◌-◌}
 use native.Mathlib.Omega.{arith}

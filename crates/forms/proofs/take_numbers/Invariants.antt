@@ -1,3 +1,5 @@
+-- `forms::take_numbers` meets its contract. The loop's invariant: storing the numbers that are left makes what storing all of them makes. The
+-- measure is how many are left. Assumes nothing.
 use mathlib.Core.Path.{◌≡◌}
 use Prim.Native.Nat.{◌≤◌, ◌-◌}
 use lib.ListN.{length}

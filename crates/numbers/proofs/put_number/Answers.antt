@@ -1,4 +1,3 @@
--- `numbers::put_number` meets its contract. The loop's invariant: what is left, put from `i` on, makes the whole. The measure is how far the
 use Prim.Native.Nat.{◌+◌, ◌%◌}
 use native.Mathlib.Omega.{arith}
 use borrow.Author.Rules.{rules}

@@ -1,3 +1,5 @@
+-- `numbers::put_number` meets its contract. The loop's invariant: what is left, put from `i` on, makes the whole. The measure is how far the
+-- buffer goes. Assumes nothing.
 use Prim.Native.Nat.{◌-◌}
 use lib.ListN.{length}
 use Rattle.numbers.proofs.Forms.{Left}

@@ -1,4 +1,3 @@
--- `numbers::read_groups` meets its contract. The loop's invariant: reading on with what the groups so far came to gives what reading from the
 use mathlib.Core.Path.{refl, sym, ap, ◌∙◌}
 use Prim.Native.Nat.{ℕ, ◌≤◌, ◌-◌, ◌*◌, ◌^◌}
 use native.Mathlib.Omega.{arith}

@@ -1,3 +1,5 @@
+-- `numbers::read_groups` meets its contract. The loop's invariant: reading on with what the groups so far came to gives what reading from the
+-- start gives. The measure is how many groups may follow. Assumes nothing.
 use mathlib.Core.Path.{◌≡◌}
 use mathlib.Core.Bool.{false}
 use Prim.Native.Nat.{◌≤◌, ◌<◌, ◌-◌, ◌^◌}

@@ -1,4 +1,3 @@
--- `printer::add_events` meets its contract. The loop's invariant: the lines that are left, put from `next` on, make the whole. The measure is how
 use native.Mathlib.Omega.{arith}
 use Rattle.printer.proofs.Events.{begin-print, print-room, print-event, print-all}
 use Rattle.printer.proofs.add_events.Goals as goal

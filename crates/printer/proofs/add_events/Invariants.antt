@@ -1,3 +1,5 @@
+-- `printer::add_events` meets its contract. The loop's invariant: the lines that are left, put from `next` on, make the whole. The measure is how
+-- many events are left. Assumes nothing.
 use Prim.Native.Nat.{◌-◌}
 use Rattle.printer.proofs.Events.{Printing}
 use Rattle.printer.proofs.add_events.Given as goal

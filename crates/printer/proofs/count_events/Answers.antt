@@ -1,4 +1,3 @@
--- `printer::count_events` meets its contract. The loop's invariant: what was counted, with the events that are left, makes the whole. The measure
 use Prim.Native.Nat.{◌+◌, ◌≤◌}
 use native.Mathlib.Omega.{arith}
 use Rattle.printer.proofs.Lengths.{lines-most}

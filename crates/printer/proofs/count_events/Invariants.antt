@@ -1,3 +1,5 @@
+-- `printer::count_events` meets its contract. The loop's invariant: what was counted, with the events that are left, makes the whole. The measure
+-- is how many events are left. Assumes nothing.
 use Prim.Native.Nat.{◌-◌}
 use Rattle.printer.proofs.Events.{Counting}
 use Rattle.printer.proofs.count_events.Given as goal

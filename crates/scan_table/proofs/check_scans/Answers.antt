@@ -1,4 +1,3 @@
--- `scan_table::check_scans` meets its contract. The loop's invariant: reading the scans that are left ends where reading all of them does. The
 use mathlib.Core.Path.{sym, ◌∙◌}
 use native.Mathlib.Omega.{arith}
 use native.Mathlib.Nat.{sub-zero}

@@ -1,3 +1,5 @@
+-- `scan_table::check_scans` meets its contract. The loop's invariant: reading the scans that are left ends where reading all of them does. The
+-- measure is how many are left. Assumes nothing.
 use mathlib.Core.Path.{◌≡◌}
 use Prim.Native.Nat.{◌≤◌, ◌-◌}
 use Rattle.numbers.specs.declared.Limit.TheVariants.{Table}

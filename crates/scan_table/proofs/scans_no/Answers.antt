@@ -1,4 +1,3 @@
--- `scan_table::scans_no` meets its contract. The loop's invariant: the first refusal of the scans from `at` on is that of all. The measure is how
 use mathlib.Core.Path.{◌≡◌, refl, sym, ◌∙◌}
 use Prim.Native.Nat.{ℕ, ◌+◌, ◌%◌}
 use native.Mathlib.Omega.{arith}

@@ -1,3 +1,5 @@
+-- `scan_table::scans_no` meets its contract. The loop's invariant: the first refusal of the scans from `at` on is that of all. The measure is how
+-- many numbers are left. Assumes nothing.
 use mathlib.Core.Path.{◌≡◌}
 use Prim.Native.Nat.{◌-◌, ◌%◌}
 use lib.ListN.{length}

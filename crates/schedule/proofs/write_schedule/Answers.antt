@@ -1,4 +1,5 @@
 -- `schedule::write_schedule` meets its contract: the tests lead to the answers of the writer, and the six are written and then the events. Assumes
+-- nothing.
 use mathlib.Core.Path.{sym, ap, ◌∙◌}
 use Prim.Native.Nat.{◌-◌}
 use native.Mathlib.Omega.{arith}

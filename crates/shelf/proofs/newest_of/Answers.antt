@@ -1,4 +1,3 @@
--- `shelf::newest_of` meets its contract. The loop's invariant: what is found so far is the newest of the scans passed. The measure is how many
 use mathlib.Core.Path.{◌≡◌, ◌∙◌}
 use native.Mathlib.Omega.{arith}
 use borrow.Author.Rules.{rules}

@@ -1,3 +1,5 @@
+-- `shelf::newest_of` meets its contract. The loop's invariant: what is found so far is the newest of the scans passed. The measure is how many
+-- are left. Assumes nothing.
 use mathlib.Core.Path.{◌≡◌}
 use Prim.Native.Nat.{◌-◌, ◌≤◌}
 use Rattle.shelf.specs.Shelf.{newest}

@@ -1,4 +1,3 @@
--- `text::decimal_width` meets its contract. The loop's invariant: the digits of the rest, with those that were counted, make the number. The
 use native.Mathlib.Omega.{arith}
 use borrow.Author.Rules.{rules}
 use Rattle.text.proofs.Finding.{begin-count, count-few, count-more, count-last}

@@ -1,3 +1,5 @@
+-- `text::decimal_width` meets its contract. The loop's invariant: the digits of the rest, with those that were counted, make the number. The
+-- measure is the rest. Assumes nothing.
 use Rattle.text.proofs.Finding.{Counted}
 use Rattle.text.proofs.decimal_width.Given as goal
 

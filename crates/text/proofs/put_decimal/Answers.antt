@@ -1,4 +1,3 @@
--- `text::put_decimal` meets its contract. The loop's invariant: the digits of the rest, with those that were found, make the number. The measure
 use mathlib.Core.Path.{refl, ◌∙◌}
 use native.Mathlib.Omega.{arith}
 use lib.ListN.{length-set}

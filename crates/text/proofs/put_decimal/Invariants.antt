@@ -1,3 +1,5 @@
+-- `text::put_decimal` meets its contract. The loop's invariant: the digits of the rest, with those that were found, make the number. The measure
+-- is the rest. Assumes nothing.
 use Rattle.text.proofs.Finding.{Filled}
 use Rattle.text.proofs.put_decimal.Given as goal
 

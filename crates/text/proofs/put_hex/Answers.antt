@@ -1,4 +1,3 @@
--- `text::put_hex` meets its contract. The loop's invariant: the digits of the rest, with those that were found, make the number. The measure
 use mathlib.Core.Path.{refl, sym, ◌∙◌}
 use native.Mathlib.Omega.{arith}
 use Rattle.text.proofs.Finding.{begin-hex, more-hex, last-hex}

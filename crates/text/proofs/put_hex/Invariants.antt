@@ -1,3 +1,5 @@
+-- `text::put_hex` meets its contract. The loop's invariant: the digits of the rest, with those that were found, make the number. The measure
+-- is how many are left to find. Assumes nothing.
 use Prim.Native.Nat.{◌-◌}
 use Rattle.text.proofs.Finding.{HexFilled}
 use Rattle.text.proofs.put_hex.Given as goal

@@ -1,4 +1,3 @@
--- `text::put_word` meets its contract. The loop's invariant: what is left of the word, put from `place` on, makes the whole. The measure is how
 use native.Mathlib.Omega.{arith}
 use Rattle.text.proofs.Putting.{begin, more, full, last}
 use Rattle.text.proofs.put_word.Goals as goal

@@ -1,3 +1,5 @@
+-- `text::put_word` meets its contract. The loop's invariant: what is left of the word, put from `place` on, makes the whole. The measure is how
+-- many bytes are left. Assumes nothing.
 use Prim.Native.Nat.{◌-◌}
 use lib.ListN.{length}
 use Rattle.text.proofs.Putting.{Left}

@@ -1,7 +1,6 @@
 -- What the age of a scan is, and when the clock rule gives the true time. Assumes nothing.
-use Rattle.std.proofs.Common.{◌≡◌, ℕ, ◌+◌, ◌-◌, ◌%◌, ◌^◌, ◌<◌, ◌≤◌, arith, le-leb}
+use Rattle.std.proofs.Common.{◌≡◌, ℕ, ◌+◌, ◌-◌, ◌%◌, ◌^◌, ◌<◌, ◌≤◌, arith, le-leb, Ok}
 use Rattle.clock.specs.Clock.{age, clock_rule_no, clock_rule}
-use Rattle.clock.specs.declared.ScanTime.TheVariants.{At}
 
 -- the number that wraps back from the scan's tick to the dock's is the age
 pub age-is : (dock scan r : ℕ) → dock < 2 ^ 32 → scan < 2 ^ 32 → r < 2 ^ 32 → (r + scan) % 2 ^ 32 ≡ dock → age dock scan ≡ r
@@ -19,6 +18,6 @@ true-age ran old h = omega arith
 
 -- a scan made at `ran` milliseconds of the handheld and docked `old` milliseconds later, at `time`: the rule gives the true time
 pub true-time : (ran old time : ℕ) → old < 2 ^ 32 → old ≤ time → time ≤ 2 ^ 48 - 1
-    → clock_rule (tick (ran + old)) (tick ran) time ≡ At (time - old)
+    → clock_rule (tick (ran + old)) (tick ran) time ≡ Ok (time - old)
 unfolding clock_rule clock_rule_no
 true-time ran old time h l t = simp (true-age ran old h, le-leb time (2 ^ 48 - 1) t, le-leb old time l)

@@ -1,9 +1,7 @@
 -- The clock rule of document 01, "Clock and shelf", over whole numbers.
-use Rattle.std.specs.Prelude.{ℕ, ◌+◌, ◌-◌, ◌%◌, ◌^◌, ◌==◌, nat_le}
+use Rattle.std.specs.Prelude.{ℕ, ◌+◌, ◌-◌, ◌%◌, ◌^◌, ◌==◌, nat_le, Result, Ok, Err}
 use Rattle.std.specs.Prelude.{if◌then◌else◌}
 use Rattle.choice.specs.Tests.{◌unless◌, ◌⨾◌, ok}
-use Rattle.clock.specs.declared.ScanTime.{ScanTime}
-use Rattle.clock.specs.declared.ScanTime.TheVariants.{At, Refused}
 
 -- age is dock tick less scan tick, modulo 4,294,967,296
 unfoldable pub age : ℕ → ℕ → ℕ
@@ -16,19 +14,18 @@ clock_rule_no dock_tick scan_tick dock_time =
     ⨾ 9 unless nat_le (age dock_tick scan_tick) dock_time
     ⨾ ok
 
+-- a scan's time, or refusal 9
+abbrev pub ScanTime : Type 0
+ScanTime = Result ℕ ℕ
+
 -- scan time is dock time less age, unless that refuses
 unfoldable pub clock_rule : ℕ → ℕ → ℕ → ScanTime
 clock_rule dock_tick scan_tick dock_time =
     if clock_rule_no dock_tick scan_tick dock_time == 0
-    then At (dock_time - age dock_tick scan_tick)
-    else Refused
-
--- document 01's number of an answer: 0, or the refusal 9
-abbrev pub clock_no : ScanTime → ℕ
-clock_no (At time) = 0
-clock_no Refused = 9
+    then Ok (dock_time - age dock_tick scan_tick)
+    else Err 9
 
 -- the time that an answer gives, or what stood there before
 abbrev pub clock_time : ScanTime → ℕ → ℕ
-clock_time (At time) old = time
-clock_time Refused old = old
+clock_time (Ok time) old = time
+clock_time (Err n) old = old

@@ -13,7 +13,7 @@ use Rattle.sets.specs.declared.scans.Scans.{Scans}
 use Rattle.model.specs.Table.{Internal, Proposal, Acknowledgement, Announcement, from, every_one, without, every_other}
 use Rattle.model.specs.declared.Message.{Message}
 use Rattle.decisions.specs.declared.sending.Send.{Send}
-use Rattle.decisions.specs.Sending.{silence, one, to_everyone, to_others, acknowledgements, skipping, item_of, items_of}
+use Rattle.decisions.specs.Sending.{silence, one, to_everyone, to_others, acknowledgements, count_of, skipping, item_of, items_of}
 
 -- ---- how many there are
 
@@ -22,9 +22,9 @@ unfolding from
 length_from i zero = refl
 length_from i (suc n) = ap suc (length_from (suc i) n)
 
-pub items-count : (s : Send) → length (items_of s) ≡ s.count
+pub items-count : (s : Send) → length (items_of s) ≡ count_of s
 unfolding items_of
-items-count s = length-map (from 0 s.count) (item_of s) ∙ length_from 0 s.count
+items-count s = length-map (from 0 (count_of s)) (item_of s) ∙ length_from 0 (count_of s)
 
 -- ---- none, one, and one to everyone
 

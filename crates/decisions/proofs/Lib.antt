@@ -1,4 +1,3 @@
-pub mod Dispatch
 pub mod Items
 pub mod Sendable
 pub mod Deciding

@@ -1,69 +1,106 @@
 -- What one event does to the records of its arm, by value: which arm takes it, what the arm decides, and what is answered.
-use Rattle.std.specs.Prelude.{Bool, true, false, ◌&&◌, ℕ, ◌-◌, eqb, ltb}
+use Rattle.std.specs.Prelude.{Bool, true, false, ◌&&◌, ℕ, ◌-◌, eqb, ltb, Result, Ok, Err}
 use Rattle.std.specs.Prelude.{if◌then◌else◌}
 use Rattle.choice.specs.Tests.{◌unless◌, ◌⨾◌, refusal, ok}
+use Rattle.sets.specs.declared.scans.Scans.{Scans}
 use Rattle.sizes.specs.Sizes.{sizes_in_range}
 use Rattle.sizes.specs.declared.Sizes.{Sizes}
-use Rattle.model.specs.Records.{Kind, free, internal, proposal, acknowledgement, rejection, announcement, no_kind, kind_of, Role, a_proposer, an_acceptor, a_learner, no_role, role_of, fresh_proposer, fresh_acceptor, fresh_learner}
+use Rattle.model.specs.Records.{kind_of, role_of, fresh_proposer, fresh_acceptor, fresh_learner}
+use Rattle.model.specs.declared.Kind.{Kind}
+use Rattle.model.specs.declared.Kind.TheVariants.{Free as free, Internal as internal, Proposal as proposal, Acknowledgement as acknowledgement, Rejection as rejection, Announcement as announcement, NoKind as no_kind}
+use Rattle.model.specs.declared.Role.{Role}
+use Rattle.model.specs.declared.Role.TheVariants.{Proposer as a_proposer, Acceptor as an_acceptor, Learner as a_learner, NoRole as no_role}
 use Rattle.model.specs.Rules.{buffering, hearing, teaches}
-use Rattle.model.specs.Events.{Code, receive, deliver, drop, duplicate, propose, refine, decide, crash, no_code, code_of}
+use Rattle.model.specs.Events.{code_of}
+use Rattle.model.specs.declared.Code.{Code}
+use Rattle.model.specs.declared.Code.TheVariants.{Receive as receive, Deliver as deliver, Drop as drop, Duplicate as duplicate, Propose as propose, Refine as refine, Decide as decide, Crash as crash, NoCode as no_code}
 use Rattle.model.specs.declared.Proposer.{Proposer}
 use Rattle.model.specs.declared.Acceptor.{Acceptor}
 use Rattle.model.specs.declared.Learner.{Learner}
 use Rattle.model.specs.declared.Message.{Message}
 use Rattle.model.specs.declared.Event.{Event}
 use Rattle.model.specs.declared.Answer.{Answer}
-use Rattle.model.specs.declared.Answer.TheVariants.{Ok, Learnt, Decided, Refused}
-use Rattle.decisions.specs.Change.{as_proposer, unchanged, freed, change_of, acknowledged_by, rejected_by}
+use Rattle.model.specs.declared.Answer.TheVariants.{Done, Learnt, Decided}
+use Rattle.model.specs.Step.{Answered}
+use Rattle.decisions.specs.Sending.{silence, count_of}
+use Rattle.decisions.specs.Change.{as_proposer, Changes, of_proposer, of_acceptor, of_table, unchanged, freed, change_of, acknowledged_by, rejected_by}
 use Rattle.decisions.specs.Refusals.{slot_no, party_no, test_no}
 use Rattle.decisions.specs.declared.decide.Change.{Change}
-use Rattle.decisions.specs.declared.arms.Decision.{Decision}
+use Rattle.decisions.specs.declared.arms.Arm.{Arm}
+use Rattle.decisions.specs.declared.arms.Arm.TheVariants as arm
 use Rattle.decisions.specs.declared.arms.Ear.{Ear}
-use Rattle.decisions.specs.declared.arms.Listened.{Listened}
+use Rattle.decisions.specs.declared.arms.Heeded.{Heeded}
 
--- ---- the arm that takes an event: 0 the table alone, 1 an acting proposer, 2 an acceptor, 3 a learner, 4 a proposer that is told
+-- ---- the arm that takes an event
 
-abbrev pub arm_of_kind : Kind → ℕ
-arm_of_kind free = 0
-arm_of_kind internal = 4
-arm_of_kind proposal = 2
-arm_of_kind acknowledgement = 4
-arm_of_kind rejection = 4
-arm_of_kind announcement = 3
-arm_of_kind no_kind = 0
+abbrev pub arm_of_kind : Kind → Arm
+arm_of_kind free = arm.Table
+arm_of_kind internal = arm.Told
+arm_of_kind proposal = arm.Acceptor
+arm_of_kind acknowledgement = arm.Told
+arm_of_kind rejection = arm.Told
+arm_of_kind announcement = arm.Learner
+arm_of_kind no_kind = arm.Table
 
-abbrev pub arm_of_role : Role → ℕ
-arm_of_role a_proposer = 1
-arm_of_role an_acceptor = 2
-arm_of_role a_learner = 3
-arm_of_role no_role = 0
+abbrev pub arm_of_role : Role → Arm
+arm_of_role a_proposer = arm.Proposer
+arm_of_role an_acceptor = arm.Acceptor
+arm_of_role a_learner = arm.Learner
+arm_of_role no_role = arm.Table
 
-unfoldable pub arm_at : ℕ → Message → Code → ℕ
-arm_at a m receive = 1
+unfoldable pub arm_at : ℕ → Message → Code → Arm
+arm_at a m receive = arm.Proposer
 arm_at a m deliver = arm_of_kind (kind_of m.kind)
-arm_at a m drop = 0
-arm_at a m duplicate = 0
-arm_at a m propose = 1
-arm_at a m refine = 1
-arm_at a m decide = 1
+arm_at a m drop = arm.Table
+arm_at a m duplicate = arm.Table
+arm_at a m propose = arm.Proposer
+arm_at a m refine = arm.Proposer
+arm_at a m decide = arm.Proposer
 arm_at a m crash = arm_of_role (role_of a)
-arm_at a m no_code = 0
+arm_at a m no_code = arm.Table
 
-abbrev pub arm_of : Event → Message → ℕ
+abbrev pub arm_of : Event → Message → Arm
 arm_of e m = arm_at e.a m (code_of e.code)
 
+abbrev pub is_arm : Arm → Arm → Bool
+is_arm arm.Table arm.Table = true
+is_arm arm.Proposer arm.Proposer = true
+is_arm arm.Acceptor arm.Acceptor = true
+is_arm arm.Learner arm.Learner = true
+is_arm arm.Told arm.Told = true
+is_arm n k = false
+
 -- the sizes are in range, and the event is one of arm n
-abbrev pub takes : ℕ → Sizes → Event → Message → Bool
-takes n z e m = sizes_in_range z && eqb (arm_of e m) n
+abbrev pub takes : Arm → Sizes → Event → Message → Bool
+takes n z e m = sizes_in_range z && is_arm n (arm_of e m)
 
 -- ---- what is decided
+
+-- of all records: the refusal or 0, how many free slots the event asks for, and what it leaves
+pub record Decision : Type 0 where
+  pub no : ℕ
+  pub need : ℕ
+  pub change : Changes
 
 -- free slots that the event asks for: the slot that it frees is there for what it sends
 unfoldable pub need_of : ℕ → Bool → ℕ → ℕ
 need_of n frees count = if eqb n 0 then (if frees then count - 1 else count) else 0
 
-abbrev decided : Change → ℕ → Decision
-decided d n = record { no = n; need = need_of n d.frees d.send.count; change = d }
+abbrev pub decided : Changes → ℕ → Decision
+decided d n = record { no = n; need = need_of n d.frees (count_of d.send); change = d }
+
+-- of one record: what it leaves, or the refusal
+abbrev pub given : {B : Type 0} → ℕ → B → Result B ℕ
+given n x = if eqb n 0 then Ok x else Err n
+
+abbrev pub by_proposer : Decision → Result (Change Proposer) ℕ
+by_proposer d = given d.no (of_proposer d.change)
+
+abbrev pub by_acceptor : Decision → Result (Change Acceptor) ℕ
+by_acceptor d = given d.no (of_acceptor d.change)
+
+abbrev pub by_table : Decision → Result (Change (Unit {0})) ℕ
+by_table d = given d.no (of_table d.change)
 
 unfoldable pub decide_of : Sizes → Event → Message → Proposer → Acceptor → Learner → Decision
 decide_of z e m q c l = decided (change_of z e.a e.b m q c (code_of e.code)) (test_no z e.a e.b m q c.alive l.alive (code_of e.code))
@@ -71,12 +108,17 @@ decide_of z e m q c l = decided (change_of z e.a e.b m q c (code_of e.code)) (te
 abbrev pub refused_of : ℕ → Proposer → Acceptor → Decision
 refused_of n q c = record { no = n; need = 0; change = unchanged q c }
 
+-- a change of one party, and 8 where slots are lacking for it
+abbrev pub finished : {B : Type 0} → Result B ℕ → ℕ → Result B ℕ
+finished (Ok x) left = if eqb left 0 then Ok x else Err 8
+finished (Err n) left = Err n
+
 -- 8 where slots are lacking
 unfoldable pub finish_of : Decision → ℕ → Proposer → Acceptor → Decision
 finish_of d left q c = if eqb d.no 0 then (if eqb left 0 then d else refused_of 8 q c) else refused_of d.no q c
 
 -- what arm n decides: 2 for an event that it does not take
-abbrev pub decided_in : ℕ → Sizes → Event → Message → Proposer → Acceptor → Decision
+abbrev pub decided_in : Arm → Sizes → Event → Message → Proposer → Acceptor → Decision
 decided_in n z e m q c = if takes n z e m then decide_of z e m q c fresh_learner else refused_of 2 q c
 
 -- Deliver: the refusals of its slot, then 5
@@ -100,9 +142,17 @@ told_in z e m q =
     then record { no = delivered_no z e m q.alive; need = 0; change = freed (told_by q m (kind_of m.kind)) fresh_acceptor }
     else refused_of (delivered_no z e m q.alive) q fresh_acceptor
 
--- what is answered where no learner hears
-unfoldable pub plain_answer : Event → Decision → Answer
-plain_answer e f = if eqb f.no 0 then (if eqb e.code 7 then Decided (record { 0 = as_proposer e.a }) f.change.proposer.decided else Ok) else Refused f.no
+-- what is answered where no learner hears, the proposer's decided set being v
+abbrev pub done_answer : Event → Scans → Answer
+done_answer e v = if eqb e.code 7 then Decided (record { 0 = as_proposer e.a }) v else Done
+
+-- the same where the event may be refused, by what it decided
+abbrev pub replied : Event → Result Scans ℕ → Answered
+replied e (Ok v) = Ok (done_answer e v)
+replied e (Err n) = Err n
+
+unfoldable pub plain_answer : Event → Decision → Answered
+plain_answer e f = given f.no (done_answer e f.change.proposer.decided)
 
 -- ---- a learner, by itself and the place of one proposer
 
@@ -129,14 +179,20 @@ hears crash = false
 hears no_code = false
 
 unfoldable pub ear_says : Sizes → Message → Ear → Code → Answer
-ear_says z m x code = if hears code then (if teaches z.acceptors x.learnt x.heard m then Learnt (record { 0 = m.addressee }) (hearing x.heard m).set else Ok) else Ok
+ear_says z m x code = if hears code then (if teaches z.acceptors x.learnt x.heard m then Learnt (record { 0 = m.addressee }) (hearing x.heard m).set else Done) else Done
 
--- what an event leaves of it, and answers, where its refusal is n
+-- what an event leaves of it, whether it frees its slot, and what it answers
+pub record Listened : Type 0 where
+  pub ear : Ear
+  pub frees : Bool
+  pub answer : Answered
+
+-- where its refusal is n
 abbrev pub listened : Sizes → Event → Message → Ear → ℕ → Listened
 listened z e m x n =
     if eqb n 0
-    then record { ear = ear_at z m x (code_of e.code); frees = hears (code_of e.code); answer = ear_says z m x (code_of e.code) }
-    else record { ear = x; frees = false; answer = Refused n }
+    then record { ear = ear_at z m x (code_of e.code); frees = hears (code_of e.code); answer = Ok (ear_says z m x (code_of e.code)) }
+    else record { ear = x; frees = false; answer = Err n }
 
 -- the first refusal: of all events, and of a learner's alone, Deliver and Crash
 abbrev pub ear_no : Sizes → Event → Message → Bool → ℕ
@@ -150,3 +206,14 @@ listen_of z e m x = listened z e m x (ear_no z e m x.alive)
 
 unfoldable pub heard_in : Sizes → Event → Message → Ear → Listened
 heard_in z e m x = listened z e m x (heard_no z e m x.alive)
+
+-- where it is not refused
+abbrev pub heeded : Ear → Bool → Answer → Heeded
+heeded x frees w = record { change = record { party = x; frees = frees; send = silence }; answer = w }
+
+abbrev pub by_answer : Listened → Answered → Result Heeded ℕ
+by_answer y (Ok w) = Ok (heeded y.ear y.frees w)
+by_answer y (Err n) = Err n
+
+abbrev pub by_learner : Listened → Result Heeded ℕ
+by_learner y = by_answer y y.answer

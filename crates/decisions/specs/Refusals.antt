@@ -1,10 +1,14 @@
 -- The first refusal of an event but 1 and 8, of the records that it finds.
 use Rattle.std.specs.Prelude.{Bool, true, not, ◌&&◌, ℕ, eqb, ltb}
 use Rattle.sizes.specs.declared.Sizes.{Sizes}
-use Rattle.model.specs.Records.{Role, a_proposer, an_acceptor, a_learner, no_role, role_of, addressed, kind_of}
+use Rattle.model.specs.Records.{role_of, addressed, kind_of}
+use Rattle.model.specs.declared.Role.{Role}
+use Rattle.model.specs.declared.Role.TheVariants.{Proposer as a_proposer, Acceptor as an_acceptor, Learner as a_learner, NoRole as no_role}
 use Rattle.model.specs.Rules.{propose_no, refine_no, decide_no}
 use Rattle.model.specs.Table.{is_free}
-use Rattle.model.specs.Events.{Code, receive, deliver, drop, duplicate, propose, refine, decide, crash, no_code, exists}
+use Rattle.model.specs.Events.{exists}
+use Rattle.model.specs.declared.Code.{Code}
+use Rattle.model.specs.declared.Code.TheVariants.{Receive as receive, Deliver as deliver, Drop as drop, Duplicate as duplicate, Propose as propose, Refine as refine, Decide as decide, Crash as crash, NoCode as no_code}
 use Rattle.choice.specs.Tests.{◌unless◌, ◌⨾◌, refusal, ok}
 use Rattle.model.specs.declared.Proposer.{Proposer}
 use Rattle.model.specs.declared.Message.{Message}

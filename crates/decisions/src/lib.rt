@@ -4,3 +4,4 @@
 pub mod arms;
 pub mod decide;
 pub mod sending;
+mod sound;

@@ -11,10 +11,10 @@ use lib.Seq.{take-add, drop-drop, take_all}
 use borrow.Author.Tests.{leb-true, le-leb}
 use Rattle.numbers.specs.Coding.{groups_of, most_of, read_number, form}
 use Rattle.numbers.specs.declared.Limit.{Limit}
-use Rattle.numbers.specs.declared.Read.TheVariants as read
 use Rattle.numbers.proofs.CodingLaws.{written-reads, read-form, form-groups, form-bytes}
 use Rattle.forms.specs.Forms.{got, Test, test_read, prepend, row, rows, then_numbers, numbers_at, forms, row_no, rows_no, as_read, all_within}
 use Rattle.choice.proofs.Tests.{and_l, and_r}
+use Rattle.numbers.specs.Coding.{number_to}
 use Rattle.forms.proofs.Outcomes.{row_cons, times, rows_row, times-length, times-map, rows-no-row, row-no-cons, cons-row-no, as-read-zero, zero-as-read}
 pub use Rattle.numbers.proofs.CodingLaws.{Bytes}
 pub use Rattle.forms.proofs.Outcomes.{Both, then-got, then-then, then_same, Passed, test-got}
@@ -24,7 +24,7 @@ pub use Rattle.forms.proofs.Outcomes.{Both, then-got, then-then, then_same, Pass
 -- the numbers vs stand from a place of the bytes up to the next, one for each test, and pass
 pub data Run (limit : Limit) (bytes : List ℕ) : List Test → ℕ → List ℕ → ℕ → Type 0 where
   none : {at : ℕ} → Run limit bytes [] at [] at
-  one : {test : Test} {tests : List Test} {at v mid next : ℕ} {vs : List ℕ} → read_number limit bytes at ≡ read.Number v mid → test v ≡ 0 → Run limit bytes tests mid vs next → Run limit bytes (test ∷ tests) at (v ∷ vs) next
+  one : {test : Test} {tests : List Test} {at v mid next : ℕ} {vs : List ℕ} → read_number limit bytes at ≡ number_to v mid → test v ≡ 0 → Run limit bytes tests mid vs next → Run limit bytes (test ∷ tests) at (v ∷ vs) next
 
 -- a row that was read is such a run
 pub row-run : (tests : List Test) (limit : Limit) (bytes : List ℕ) (at : ℕ) {vs : List ℕ} {next : ℕ} → row tests limit bytes at ≡ got vs next → Run limit bytes tests at vs next
@@ -77,7 +77,7 @@ reads-run (t ∷ ts) limit (v ∷ vs) l z before after =
     let w = as-read-zero limit t v p.0 in
     let e : before ++ (form v ++ forms vs ++ after) ≡ before ++ form v ++ (forms vs ++ after) = simp append_assoc in
     let n : length before + length (form v ++ forms vs) ≡ length (before ++ form v) + length (forms vs) = simp length-append (omega arith) in
-    let r : read_number limit (before ++ form v ++ (forms vs ++ after)) (length before) ≡ read.Number v (length (before ++ form v)) = rw (append_assoc before (form v) (forms vs ++ after), length-append before (form v)) (written-reads limit v before (forms vs ++ after) w.0) in
+    let r : read_number limit (before ++ form v ++ (forms vs ++ after)) (length before) ≡ number_to v (length (before ++ form v)) = rw (append_assoc before (form v) (forms vs ++ after), length-append before (form v)) (written-reads limit v before (forms vs ++ after) w.0) in
     rw (e, n) (one r w.1 (reads-run ts limit vs (omega arith) p.1 (before ++ form v) after))
 
 -- the tests of rows, as those of one row
@@ -163,7 +163,7 @@ stands-append {s} {us} {ws} {at} {mid} {next} x y =
     }
 
 -- a number that is read stands there
-pub stands_one : (limit : Limit) (s : List ℕ) (at v next : ℕ) → Bytes s → read_number limit s at ≡ read.Number v next → Stands s at (v ∷ []) next
+pub stands_one : (limit : Limit) (s : List ℕ) (at v next : ℕ) → Bytes s → read_number limit s at ≡ number_to v next → Stands s at (v ∷ []) next
 unfolding forms
 stands_one limit s at v next b e =
     let f = read-form limit s at v next b e in

@@ -13,13 +13,12 @@ use Rattle.choice.specs.Tests.{refusal, ◌⨾◌}
 use Rattle.choice.proofs.Tests.{test-passed, rest-passed, no-refusal, rest-unrefused}
 use Rattle.numbers.specs.Coding.{most_of, read_number}
 use Rattle.numbers.specs.declared.Limit.{Limit}
-use Rattle.numbers.specs.declared.Refusal.{Refusal}
-use Rattle.numbers.specs.declared.Read.{Read}
-use Rattle.numbers.specs.declared.Read.TheVariants as read
-use Rattle.forms.specs.Forms.{Outcome, got, refused, refused_with, Test, test_read, prepend, and_then, row, rows, row_no, rows_no, as_read}
+use Rattle.std.specs.Prelude.{Ok, Err}
+use Rattle.numbers.specs.Coding.{number_to, Read}
+use Rattle.forms.specs.Forms.{Outcome, got, refused, Test, test_read, prepend, and_then, row, rows, row_no, rows_no, as_read}
 
 -- numbers and a refusal are not the same
-pub refused-got : {r : Refusal} {vs : List ℕ} {next : ℕ} → refused r ≡ got vs next → ⊥
+pub refused-got : {r : ℕ} {vs : List ℕ} {next : ℕ} → refused r ≡ got vs next → ⊥
 refused-got e = let z : ◌≡◌ {A = ℕ} 0 1 = cc in omega arith
 
 -- ---- one piece and then another
@@ -37,7 +36,7 @@ prepend-prepend us vs (got ws next) = rw append_assoc
 prepend-prepend us vs (refused r) = refl
 
 -- numbers before a piece do not change its refusal
-pub refused-prepend : (vs : List ℕ) (o : Outcome) {r : Refusal} → prepend vs o ≡ refused r → o ≡ refused r
+pub refused-prepend : (vs : List ℕ) (o : Outcome) {r : ℕ} → prepend vs o ≡ refused r → o ≡ refused r
 unfolding prepend
 refused-prepend vs (got ws next) e = absurd (refused-got (sym e))
 refused-prepend vs (refused s) e = e
@@ -82,22 +81,24 @@ then-got (got us mid) f {vs} {next} e = go (f mid) refl e
 -- a number that was read and passed its test
 pub record Passed (test : Test) (r : Read) (vs : List ℕ) (next : ℕ) : Type 0 where
   pub v : ℕ
-  pub was : r ≡ read.Number v next
+  pub was : r ≡ number_to v next
   pub passes : test v ≡ 0
   pub alone : vs ≡ v ∷ []
 
 -- a tested number is read where it passes
 pub test-got : (test : Test) (r : Read) {vs : List ℕ} {next : ℕ} → test_read test r ≡ got vs next → Passed test r vs next
 unfolding test_read
-test-got test (read.Refused r) e = absurd (refused-got e)
-test-got test (read.Number v n) {vs} {next} e = go (eqb (test v) 0) refl e
+test-got test (Err r) e = absurd (refused-got e)
+test-got test (Ok n) {vs} {next} e = go (eqb (test n.value) 0) refl e
   where
-    go : (t : Bool) → eqb (test v) 0 ≡ t → (if t then got (v ∷ []) n else refused_with (test v)) ≡ got vs next → Passed test (read.Number v n) vs next
-    go true q h = record { v = v; was = cc; passes = eqb-true (test v) 0 q; alone = cc }
+    go : (t : Bool) → eqb (test n.value) 0 ≡ t → (if t then got (n.value ∷ []) n.next else refused (test n.value)) ≡ got vs next → Passed test (Ok n) vs next
+    go true q h =
+        let p : n.next ≡ next = cc in
+        record { v = n.value; was = ap (λ (m : ℕ). number_to n.value m) p; passes = eqb-true (test n.value) 0 q; alone = cc }
     go false q h = absurd (refused-got h)
 
 -- a number of a row is read and passes: it is the row's, with the rest from its next place
-pub row_cons : (test : Test) (tests : List Test) (limit : Limit) (bytes : List ℕ) (at : ℕ) {v mid : ℕ} → read_number limit bytes at ≡ read.Number v mid → test v ≡ 0
+pub row_cons : (test : Test) (tests : List Test) (limit : Limit) (bytes : List ℕ) (at : ℕ) {v mid : ℕ} → read_number limit bytes at ≡ number_to v mid → test v ≡ 0
     → row (test ∷ tests) limit bytes at ≡ prepend (v ∷ []) (row tests limit bytes mid)
 unfolding row test_read and_then
 row_cons test tests limit bytes at {v} e p = rw (e, eq-eqb (test v) 0 p)

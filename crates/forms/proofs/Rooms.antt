@@ -11,13 +11,12 @@ use lib.Seq.{sets}
 use borrow.Author.Tests.{ltb-false, leb-true, leb-false, lt-leb, le-leb}
 use Rattle.std.specs.Prelude.{if◌then◌else◌}
 use Rattle.choice.specs.Tests.{◌unless◌, refusal, ◌⨾◌, ok}
-use Rattle.numbers.specs.declared.Refusal.{Refusal}
 use Rattle.numbers.proofs.Puts.{sets-stays}
-use Rattle.forms.specs.declared.Place.TheVariants as place
-use Rattle.forms.specs.Forms.{Outcome, got, refused, FormRead, read_as, unread, unread_with, whole, form_no, numbers_in, room_no, into_room, after_room, place_of, ended_at}
+use Rattle.std.specs.Prelude.{Ok, Err}
+use Rattle.forms.specs.Forms.{Place, Outcome, got, refused, FormRead, read_as, unread, whole, form_no, numbers_in, room_no, into_room, after_room, place_of, ended_at}
 
 -- a form that was read and a refusal are not the same
-pub unread-read : {H : Type 0} {r : Refusal} {h : H} {vs : List ℕ} → unread r ≡ read_as h vs → ⊥
+pub unread-read : {H : Type 0} {r : ℕ} {h : H} {vs : List ℕ} → unread r ≡ read_as h vs → ⊥
 unread-read e = let z : ◌≡◌ {A = ℕ} 0 1 = cc in omega arith
 
 -- ---- the end
@@ -32,23 +31,23 @@ pub record Ends {H : Type 0} (bytes : List ℕ) (header : H) (o : Outcome) (f : 
 
 module _ {H : Type 0} (bytes : List ℕ) (header : H) where
   -- it ends at a place
-  pub whole-next : (o : Outcome) {n : ℕ} → ended_at (length bytes) (place_of o) ≡ place.Next n → Ends bytes header o (whole bytes header o)
+  pub whole-next : (o : Outcome) {n : ℕ} → ended_at (length bytes) (place_of o) ≡ Ok n → Ends bytes header o (whole bytes header o)
   unfolding whole
   whole-next (refused r) e = absurd (let z : ◌≡◌ {A = ℕ} 0 1 = cc in omega arith)
   whole-next (got vs next) {n} e = go (ltb next (length bytes)) refl e
     where
-      go : (t : Bool) → ltb next (length bytes) ≡ t → (if t then place.Refused (record { no = 13 }) else place.Next next) ≡ place.Next n
-          → Ends bytes header (got vs next) (if t then unread_with 13 else read_as header vs)
+      go : (t : Bool) → ltb next (length bytes) ≡ t → ◌≡◌ {A = Place} (if t then Err 13 else Ok next) (Ok n)
+          → Ends bytes header (got vs next) (if t then unread 13 else read_as header vs)
       go true q h = absurd (let z : ◌≡◌ {A = ℕ} 0 1 = cc in omega arith)
       go false q h = record { numbers = vs; next = next; body = refl; ends = ltb-false next (length bytes) q; reads = refl }
 
   -- it does not
-  pub whole-stops : (o : Outcome) {r : Refusal} → ended_at (length bytes) (place_of o) ≡ place.Refused r → whole bytes header o ≡ unread r
+  pub whole-stops : (o : Outcome) {r : ℕ} → ended_at (length bytes) (place_of o) ≡ Err r → whole bytes header o ≡ unread r
   unfolding whole
   whole-stops (refused q) e = cc
   whole-stops (got vs next) {r} e = go (ltb next (length bytes)) e
     where
-      go : (t : Bool) → (if t then place.Refused (record { no = 13 }) else place.Next next) ≡ place.Refused r → (if t then unread_with 13 else read_as header vs) ≡ unread r
+      go : (t : Bool) → ◌≡◌ {A = Place} (if t then Err 13 else Ok next) (Err r) → (if t then unread 13 else read_as header vs) ≡ unread r
       go true h = cc
       go false h = absurd (let z : ◌≡◌ {A = ℕ} 0 1 = cc in omega arith)
 
@@ -58,7 +57,7 @@ module _ {H : Type 0} (bytes : List ℕ) (header : H) where
   whole-got (refused r) e = absurd (unread-read e)
   whole-got (got ws next) {h} {vs} e = go (ltb next (length bytes)) refl e
     where
-      go : (t : Bool) → ltb next (length bytes) ≡ t → (if t then unread_with 13 else read_as header ws) ≡ read_as h vs → Ends bytes header (got ws next) (read_as h vs)
+      go : (t : Bool) → ltb next (length bytes) ≡ t → (if t then unread 13 else read_as header ws) ≡ read_as h vs → Ends bytes header (got ws next) (read_as h vs)
       go true q f = absurd (unread-read f)
       go false q f = record { numbers = ws; next = next; body = refl; ends = ltb-false next (length bytes) q; reads = sym f }
 
@@ -70,20 +69,20 @@ Fills o room f e = (f ≡ into_room o room) × (e ≡ after_room o room) × (for
 
 module _ (H : Type 0) (room : List ℕ) where
   -- the number of a refused form is its own
-  refused-no : (r : Refusal) → room_no {H = H} (unread r) room ≡ r.no
+  refused-no : (r : ℕ) → room_no {H = H} (unread r) room ≡ r
   unfolding room_no form_no numbers_in
-  refused-no r = go r.no
+  refused-no r = go r
     where
       go : (n : ℕ) → (refusal n ⨾ 8 unless leb 0 (length room) ⨾ ok) ≡ n
       go zero = rw (le-leb 0 (length room) (omega arith))
       go (suc n) = refl
 
   -- the form is refused
-  pub form-refused : (r : Refusal) → Fills {H = H} (unread r) room (unread r) room
+  pub form-refused : (r : ℕ) → Fills {H = H} (unread r) room (unread r) room
   unfolding into_room after_room form_no numbers_in
-  form-refused r = (rw (refused-no r) (go (eqb r.no 0)), rw (refused-no r) (left (eqb r.no 0)), sym (refused-no r))
+  form-refused r = (rw (refused-no r) (go (eqb r 0)), rw (refused-no r) (left (eqb r 0)), sym (refused-no r))
     where
-      go : (t : Bool) → ◌≡◌ {A = FormRead H} (unread r) (if t then unread r else unread_with r.no)
+      go : (t : Bool) → ◌≡◌ {A = FormRead H} (unread r) (if t then unread r else unread r)
       go true = refl
       go false = refl
 
@@ -92,7 +91,7 @@ module _ (H : Type 0) (room : List ℕ) where
       left false = refl
 
   -- the room is smaller than the numbers
-  pub room-short : (header : H) (vs : List ℕ) → length room < length vs → Fills (read_as header vs) room (unread_with 8) room
+  pub room-short : (header : H) (vs : List ℕ) → length room < length vs → Fills (read_as header vs) room (unread 8) room
   unfolding into_room after_room room_no form_no numbers_in
   room-short header vs h = let e = lt-leb (length vs) (length room) h in (rw e, rw e, rw e)
 
@@ -104,8 +103,8 @@ module _ (H : Type 0) (room : List ℕ) where
 module _ {H : Type 0} (o : FormRead H) (room : List ℕ) where
   -- what is given, each with what leads to it
   data Answer : Type 0 where
-    unformed : (r : Refusal) → o ≡ unread r → Fills o room (unread r) room → Answer
-    narrow : (header : H) (vs : List ℕ) → o ≡ read_as header vs → length room < length vs → Fills o room (unread_with 8) room → Answer
+    unformed : (r : ℕ) → o ≡ unread r → Fills o room (unread r) room → Answer
+    narrow : (header : H) (vs : List ℕ) → o ≡ read_as header vs → length room < length vs → Fills o room (unread 8) room → Answer
     stored : (header : H) (vs : List ℕ) → o ≡ read_as header vs → length vs ≤ length room → Fills o room (read_as header vs) (sets room 0 vs) → Answer
 
   -- all that is given is one of them
@@ -137,17 +136,17 @@ module _ {H : Type 0} (o : FormRead H) (room : List ℕ) where
     pub short : length room < length numbers
 
   -- a form that is not read into room is refused by itself, or with 8, after all else, where the room is smaller than its numbers
-  pub room-refusals : (r : Refusal) → into_room o room ≡ unread r → (o ≡ unread r) ⊎ ((r.no ≡ 8) × Narrow)
+  pub room-refusals : (r : ℕ) → into_room o room ≡ unread r → (o ≡ unread r) ⊎ ((r ≡ 8) × Narrow)
   unfolding form_no
   room-refusals r e = go answers
     where
-      go : Answer → (o ≡ unread r) ⊎ ((r.no ≡ 8) × Narrow)
+      go : Answer → (o ≡ unread r) ⊎ ((r ≡ 8) × Narrow)
       go (Answer.unformed q h w) = inl (h ∙ w.0 ∙ e)
       go (Answer.narrow header vs h l w) = inr (sym (ap form_no (w.0 ∙ e)), record { header = header; numbers = vs; accepted = h; short = l })
       go (Answer.stored header vs h l w) = absurd (unread-read (sym (w.0 ∙ e)))
 
   -- a refusal leaves the room as it was
-  pub room-refused : (r : Refusal) → into_room o room ≡ unread r → after_room o room ≡ room
+  pub room-refused : (r : ℕ) → into_room o room ≡ unread r → after_room o room ≡ room
   room-refused r e = go answers
     where
       go : Answer → after_room o room ≡ room

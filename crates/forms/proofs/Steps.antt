@@ -1,6 +1,6 @@
 -- One number of those that are left to pass over, to take or to write. Assumes nothing.
 use mathlib.Core.Path.{◌≡◌, refl, sym, ap}
-use mathlib.Core.Bool.{Bool, true, false, ◌&&◌}
+use mathlib.Core.Bool.{Bool, true, false}
 use mathlib.Core.List.{List, [], ◌∷◌, ◌++◌}
 use Prim.Native.Nat.{ℕ, suc, ◌+◌, ◌-◌, ◌<◌, ◌≤◌}
 use native.Mathlib.Omega.{arith}
@@ -9,12 +9,11 @@ use lib.Dec.{leb}
 use lib.ListN.{length, drop, get_or, set, drop_of_length-le, length-append}
 use lib.Seq.{sets, drop-cons}
 use borrow.Author.Tests.{leb-true, leb-false, le-leb, lt-leb}
-use Rattle.numbers.specs.Coding.{most_of, read_number, form}
+use Rattle.numbers.specs.Coding.{read_number, form}
 use Rattle.numbers.specs.declared.Limit.{Limit}
-use Rattle.numbers.specs.declared.Refusal.{Refusal}
-use Rattle.numbers.specs.declared.Read.TheVariants as read
-use Rattle.forms.specs.declared.Place.TheVariants as place
-use Rattle.forms.specs.Forms.{Outcome, got, refused, test_read, prepend, and_then, row, plain, place_of, then_numbers, numbers_at, forms, all_within}
+use Rattle.std.specs.Prelude.{Ok, Err}
+use Rattle.numbers.specs.Coding.{number_to}
+use Rattle.forms.specs.Forms.{Outcome, got, refused, test_read, prepend, and_then, row, plain, place_of, then_numbers, numbers_at, forms}
 pub use Rattle.numbers.proofs.Ends.{sets-out, sets-append}
 
 -- where reading ends does not hang on the numbers before
@@ -25,35 +24,35 @@ place-prepend vs (refused r) = refl
 
 module _ (limit : Limit) (bytes : List ℕ) (n i at : ℕ) where
   -- a number that is read is one less to pass over
-  pub plain-number : {v next : ℕ} → i < n → read_number limit bytes at ≡ read.Number v next → place_of (plain (n - i) limit bytes at) ≡ place_of (plain (n - (i + 1)) limit bytes next)
+  pub plain-number : {v next : ℕ} → i < n → read_number limit bytes at ≡ number_to v next → place_of (plain (n - i) limit bytes at) ≡ place_of (plain (n - (i + 1)) limit bytes next)
   unfolding row test_read and_then
   plain-number {v} {next} h e =
       let q : n - i ≡ suc (n - (i + 1)) = omega arith in
       rw (q, e) (place-prepend (v ∷ []) (plain (n - (i + 1)) limit bytes next))
 
   -- a refusal ends the reading
-  pub plain-refused : {r : Refusal} → i < n → read_number limit bytes at ≡ read.Refused r → place_of (plain (n - i) limit bytes at) ≡ place.Refused r
+  pub plain-refused : {r : ℕ} → i < n → read_number limit bytes at ≡ Err r → place_of (plain (n - i) limit bytes at) ≡ Err r
   unfolding row test_read and_then
   plain-refused h e =
       let q : n - i ≡ suc (n - (i + 1)) = omega arith in
       rw (q, e)
 
   -- none is left to pass over
-  pub plain-none : n ≤ i → place_of (plain (n - i) limit bytes at) ≡ place.Next at
+  pub plain-none : n ≤ i → place_of (plain (n - i) limit bytes at) ≡ Ok at
   unfolding row
   plain-none h =
       let q : n - i ≡ 0 = omega arith in
       rw q
 
   -- a number that is read is one less to take
-  pub taken-number : {v next : ℕ} → i < n → read_number limit bytes at ≡ read.Number v next → numbers_at (n - i) limit bytes at ≡ v ∷ numbers_at (n - (i + 1)) limit bytes next
+  pub taken-number : {v next : ℕ} → i < n → read_number limit bytes at ≡ number_to v next → numbers_at (n - i) limit bytes at ≡ v ∷ numbers_at (n - (i + 1)) limit bytes next
   unfolding numbers_at then_numbers
   taken-number h e =
       let q : n - i ≡ suc (n - (i + 1)) = omega arith in
       rw (q, e)
 
   -- nothing is taken from a refusal on
-  pub taken_refused : {r : Refusal} → i < n → read_number limit bytes at ≡ read.Refused r → numbers_at (n - i) limit bytes at ≡ []
+  pub taken_refused : {r : ℕ} → i < n → read_number limit bytes at ≡ Err r → numbers_at (n - i) limit bytes at ≡ []
   unfolding numbers_at then_numbers
   taken_refused h e =
       let q : n - i ≡ suc (n - (i + 1)) = omega arith in
@@ -67,7 +66,7 @@ module _ (limit : Limit) (bytes : List ℕ) (n i at : ℕ) where
       rw q
 
   -- a number that is read is stored, and then those after it
-  pub stored-number : {v next : ℕ} (room : List ℕ) → i < n → read_number limit bytes at ≡ read.Number v next
+  pub stored-number : {v next : ℕ} (room : List ℕ) → i < n → read_number limit bytes at ≡ number_to v next
       → sets room i (numbers_at (n - i) limit bytes at) ≡ sets (set room i v) (i + 1) (numbers_at (n - (i + 1)) limit bytes next)
   stored-number {v} {next} room h e =
       let t = numbers_at (n - (i + 1)) limit bytes next in
@@ -87,16 +86,6 @@ module _ (vs : List ℕ) (i : ℕ) where
   pub forms-none : length vs ≤ i → forms (drop i vs) ≡ []
   unfolding forms
   forms-none h = rw (drop_of_length-le vs h)
-
-  -- the number at a place is tested, and then those after it
-  pub within-next : (limit : Limit) → i < length vs → all_within limit (drop i vs) ≡ (leb (get_or vs i 0) (most_of limit) && all_within limit (drop (i + 1) vs))
-  unfolding all_within
-  within-next limit h = rw (drop-cons vs i 0 h, add-one i)
-
-  -- past the last number nothing is above the limit
-  pub within_none : (limit : Limit) → length vs ≤ i → all_within limit (drop i vs) ≡ true
-  unfolding all_within
-  within_none limit h = rw (drop_of_length-le vs h)
 
 -- what has been counted is taken off on both sides
 pub leb-less : (a b l : ℕ) → a ≤ l → leb (a + b) l ≡ leb b (l - a)

@@ -5,12 +5,12 @@ use mathlib.Core.List.{List}
 use Prim.Native.Nat.{ℕ, ◌+◌, ◌<◌, ◌≤◌}
 use native.Mathlib.Omega.{arith}
 use lib.ListN.{length}
-use Rattle.numbers.specs.Coding.{refused_write}
+use Rattle.numbers.specs.Coding.{}
 use Rattle.numbers.specs.declared.Limit.{Limit}
-use Rattle.numbers.specs.declared.Written.TheVariants as written
 use Rattle.numbers.proofs.Ends.{Ends}
 use Rattle.numbers.proofs.Puts as put
 use Rattle.numbers.proofs.Puts.{Puts}
+use Rattle.std.specs.Prelude.{Ok, Err}
 use Rattle.forms.specs.Forms.{forms, all_within, limits_no}
 
 module _ (limit : Limit) (vs : List ℕ) where
@@ -24,13 +24,13 @@ module _ (limit : Limit) (vs : List ℕ) where
 
 module _ (limit : Limit) (vs d : List ℕ) (at : ℕ) where
   -- a number is above the limit
-  pub too_large : all_within limit vs ≡ false → Puts (limits_no limit vs) (forms vs) d at (refused_write 12) d
+  pub too_large : all_within limit vs ≡ false → Puts (limits_no limit vs) (forms vs) d at (Err 12) d
   too_large h = rw (limits-above limit vs h) (put.refuses 12 (forms vs) d at (λ z. omega arith))
 
   -- no room for the forms
-  pub no_room : all_within limit vs ≡ true → length d < at + length (forms vs) → Puts (limits_no limit vs) (forms vs) d at (refused_write 8) d
+  pub no_room : all_within limit vs ≡ true → length d < at + length (forms vs) → Puts (limits_no limit vs) (forms vs) d at (Err 8) d
   no_room h l = put.no_room (limits_no limit vs) (forms vs) d at (limits-within limit vs h) l
 
   -- the forms are written
-  pub wrote : {m : ℕ} {e : List ℕ} → all_within limit vs ≡ true → at + length (forms vs) ≤ length d → Ends (forms vs) d at m e → Puts (limits_no limit vs) (forms vs) d at (written.Next m) e
+  pub wrote : {m : ℕ} {e : List ℕ} → all_within limit vs ≡ true → at + length (forms vs) ≤ length d → Ends (forms vs) d at m e → Puts (limits_no limit vs) (forms vs) d at (Ok m) e
   wrote h l p = put.put-wrote (limits_no limit vs) (forms vs) d at (limits-within limit vs h) l p

@@ -1,26 +1,18 @@
 -- What written forms are made of: numbers of the coding, one after the other, each tested when read.
-use Rattle.std.specs.Prelude.{Bool, true, ◌&&◌, List, [], ◌∷◌, ◌++◌, ℕ, zero, suc, ◌+◌, eqb, ltb, leb, length, drop, replicate}
+use Rattle.std.specs.Prelude.{Bool, List, [], ◌∷◌, ◌++◌, ℕ, zero, suc, ◌+◌, eqb, ltb, leb, length, drop, replicate, Result, Ok, Err}
+use Rattle.std.specs.List.{list_all}
 use Rattle.std.proofs.lemmas.List.Edits.{sets}
 use Rattle.std.specs.Prelude.{if◌then◌else◌}
 use Rattle.choice.specs.Tests.{◌unless◌, refusal, ◌⨾◌, ok}
-use Rattle.numbers.specs.Coding.{most_of, read_number, form, put_no, put_answer, after_put}
+use Rattle.numbers.specs.Coding.{Read, Written, most_of, read_number, form, put_no, put_answer, after_put}
 use Rattle.numbers.specs.declared.Limit.{Limit}
-use Rattle.numbers.specs.declared.Refusal.{Refusal}
-use Rattle.numbers.specs.declared.Read.{Read}
-use Rattle.numbers.specs.declared.Read.TheVariants as read
-use Rattle.numbers.specs.declared.Written.{Written}
-use Rattle.forms.specs.declared.Place.{Place}
-use Rattle.forms.specs.declared.Place.TheVariants as place
 
 -- ---- reading
 
 -- what reading a piece of a form gives: the numbers read and the place after them, or a refusal
 pub data Outcome : Type 0 where
   got : List ℕ → ℕ → Outcome
-  refused : Refusal → Outcome
-
-abbrev pub refused_with : ℕ → Outcome
-refused_with n = refused (record { no = n })
+  refused : ℕ → Outcome
 
 -- a test of a number: 0, or the refusal that it gives
 abbrev pub Test : Type 0
@@ -28,8 +20,8 @@ Test = ℕ → ℕ
 
 -- a number is tested when it is read
 unfoldable pub test_read : Test → Read → Outcome
-test_read test (read.Number v next) = if eqb (test v) 0 then got (v ∷ []) next else refused_with (test v)
-test_read test (read.Refused r) = refused r
+test_read test (Ok n) = if eqb (test n.value) 0 then got (n.value ∷ []) n.next else refused (test n.value)
+test_read test (Err r) = refused r
 
 unfoldable pub prepend : List ℕ → Outcome → Outcome
 prepend vs (got ws next) = got (vs ++ ws) next
@@ -59,14 +51,17 @@ untested v = 0
 abbrev pub plain : ℕ → Limit → List ℕ → ℕ → Outcome
 plain n limit bytes at = row (replicate n untested) limit bytes at
 
--- where reading a piece ends
+-- where reading a piece ends: the place after it, or a refusal
+abbrev pub Place : Type 0
+Place = Result ℕ ℕ
+
 abbrev pub place_of : Outcome → Place
-place_of (got vs next) = place.Next next
-place_of (refused r) = place.Refused r
+place_of (got vs next) = Ok next
+place_of (refused r) = Err r
 
 unfoldable pub then_numbers : Read → (ℕ → List ℕ) → List ℕ
-then_numbers (read.Number v next) rest = v ∷ rest next
-then_numbers (read.Refused r) rest = []
+then_numbers (Ok n) rest = n.value ∷ rest n.next
+then_numbers (Err r) rest = []
 
 -- the first n numbers from a place on, as far as they can be read
 unfoldable pub numbers_at : ℕ → Limit → List ℕ → ℕ → List ℕ
@@ -79,24 +74,21 @@ numbers_at (suc n) limit bytes at =
 -- what reading it gives: its header and the numbers after it, or a refusal
 pub data FormRead (H : Type 0) : Type 0 where
   read_as : H → List ℕ → FormRead H
-  unread : Refusal → FormRead H
-
-abbrev pub unread_with : {H : Type 0} → ℕ → FormRead H
-unread_with n = unread (record { no = n })
+  unread : ℕ → FormRead H
 
 -- what is read, unless n refuses it
 abbrev pub read_unless : {H : Type 0} → ℕ → FormRead H → FormRead H
-read_unless n o = if eqb n 0 then o else unread_with n
+read_unless n o = if eqb n 0 then o else unread n
 
 -- the numbers after a header, and then the end: 13 where bytes follow
 unfoldable pub whole : {H : Type 0} → List ℕ → H → Outcome → FormRead H
-whole bytes header (got vs next) = if ltb next (length bytes) then unread_with 13 else read_as header vs
+whole bytes header (got vs next) = if ltb next (length bytes) then unread 13 else read_as header vs
 whole bytes header (refused r) = unread r
 
 -- document 01's number of what was read: 0, or the refusal's
 unfoldable pub form_no : {H : Type 0} → FormRead H → ℕ
 form_no (read_as header vs) = 0
-form_no (unread r) = r.no
+form_no (unread r) = r
 
 -- the numbers after the header
 unfoldable pub numbers_in : {H : Type 0} → FormRead H → List ℕ
@@ -119,8 +111,8 @@ after_room o room = if eqb (room_no o room) 0 then sets room 0 (numbers_in o) el
 
 -- the end of a form whose numbers end at a place
 abbrev pub ended_at : ℕ → Place → Place
-ended_at end (place.Next next) = if ltb next end then place.Refused (record { no = 13 }) else place.Next next
-ended_at end (place.Refused r) = place.Refused r
+ended_at end (Ok next) = if ltb next end then Err 13 else Ok next
+ended_at end (Err r) = Err r
 
 -- ---- writing
 
@@ -146,8 +138,7 @@ as_read limit test v = 12 unless leb v (most_of limit) ⨾ test v
 
 -- all the numbers are within the limit
 unfoldable pub all_within : Limit → List ℕ → Bool
-all_within limit [] = true
-all_within limit (v ∷ vs) = leb v (most_of limit) && all_within limit vs
+all_within limit vs = list_all (λ v. leb v (most_of limit)) vs
 
 -- each of the numbers is within the limit
 unfoldable pub limits_no : Limit → List ℕ → ℕ

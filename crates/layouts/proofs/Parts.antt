@@ -4,11 +4,11 @@ use mathlib.Core.List.{List, append-nil}
 use mathlib.Core.Path.{◌≡◌, refl, sym, ap, ◌∙◌}
 use Prim.Native.Nat.{ℕ, suc, ◌+◌, ◌≤◌, ◌<◌}
 use native.Mathlib.Omega.{arith}
-use lib.ListN.{length, set, drop_of_length-le}
+use lib.ListN.{length, drop_of_length-le}
 use lib.Seq.{sets, sets-eq}
 use mir.Val.{bool_byte}
 use borrow.Author.Tests.{ltb-true, leb-true, eqb-true}
-use Rattle.std.specs.Prelude.{if◌then◌else◌}
+use Rattle.std.specs.Prelude.{if◌then◌else◌, Option, Some, None}
 use Rattle.sets.specs.Scans.{most_scans, first_word}
 use Rattle.sets.specs.declared.scans.Scans.{Scans}
 use Rattle.sizes.specs.Sizes.{sizes_in_range}
@@ -26,14 +26,25 @@ passed e h = sym e ∙ h
 pub failed : {r t : Bool} → r ≡ t → r ≡ false → t ≡ false
 failed e h = sym e ∙ h
 
+-- ---- what is read where a test holds
+
+pub read-passed : {A : Type 0} (t : Bool) (x : A) {r : Option A} {y : A} → r ≡ (if t then Some x else None) → r ≡ Some y → t ≡ true
+read-passed true x e h = refl
+read-passed false x e h = cc
+
+pub read-value : {A : Type 0} (t : Bool) (x : A) {r : Option A} {y : A} → r ≡ (if t then Some x else None) → r ≡ Some y → y ≡ x
+read-value true x e h = cc
+read-value false x e h = cc
+
+pub read-failed : {A : Type 0} (t : Bool) (x : A) {r : Option A} → r ≡ (if t then Some x else None) → r ≡ None → t ≡ false
+read-failed true x e h = cc
+read-failed false x e h = refl
+
 -- ---- bytes
 
 pub flag-byte : (t : Bool) → bool_byte t ≡ (if t then 1 else 0)
 flag-byte true = refl
 flag-byte false = refl
-
-pub stored-flag : (bytes : List ℕ) (at : ℕ) (t : Bool) → set bytes at (bool_byte t) ≡ sets bytes at (flag_bytes t)
-stored-flag bytes at t = ap (λ (n : ℕ). set bytes at n) (flag-byte t)
 
 -- bytes that are all put are those that were put
 pub put_whole : (bytes new : List ℕ) → length bytes ≡ length new → sets bytes 0 new ≡ new

@@ -1,6 +1,6 @@
--- How the loops over a learner's places go.
-use mathlib.Core.Bool.{Bool, true, false, ◌&&◌}
-use mathlib.Core.List.{List, [], ◌∷◌, ◌++◌, append_assoc}
+-- How a learner's places are read, tested and put.
+use mathlib.Core.Bool.{Bool, true, ◌&&◌}
+use mathlib.Core.List.{List, [], ◌∷◌, ◌++◌, append_assoc, map}
 use mathlib.Core.Logic.{⊎_elim}
 use mathlib.Core.Path.{◌≡◌, refl, sym, ap, ◌∙◌}
 use Prim.Native.Nat.{ℕ, zero, suc, ◌+◌, ◌-◌, ◌*◌, ◌≤◌, ◌<◌, min}
@@ -10,6 +10,8 @@ use native.Mathlib.Omega.{arith}
 use lib.ListN.{length, get_or, set, take, drop, replicate, length-set, length-append, length-replicate}
 use lib.Seq.{sets, sets-eq, take_at, drop_at, split_at, length-take-le, set_split}
 use borrow.Author.Tests.{eq-eqb}
+use Rattle.std.specs.List.{range_with_len, list_all}
+use Rattle.std.proofs.lemmas.List.FromFn.{map-range_with_len_more}
 use Rattle.sets.specs.Scans.{fits}
 use Rattle.sizes.specs.Sizes.{sizes_in_range}
 use Rattle.sizes.specs.declared.Sizes.{Sizes}
@@ -58,25 +60,25 @@ eight-listening a p bytes m = ap length (listening-heard a (learner_at p bytes) 
 
 -- ---- testing
 
-and-true : (x : Bool) → (x && true) ≡ x
-and-true true = refl
-and-true false = refl
-
-and_assoc : (x y z : Bool) → ((x && y) && z) ≡ (x && (y && z))
-and_assoc true y z = refl
-and_assoc false y z = refl
-
--- one more at the end
-all_snoc : {B : Type 0} (f : B → Bool) (l : List B) (x : B) → (all f l && f x) ≡ all f (l ++ x ∷ [])
-unfolding all
-all_snoc f [] x = sym (and-true (f x))
-all_snoc f (y ∷ l) x = and_assoc (f y) (all f l) (f x) ∙ ap (λ (t : Bool). f y && t) (all_snoc f l x)
-
--- the place after the first i
-pub test-place : (z : Sizes) (i : ℕ) (bytes : List ℕ) {t u : Bool} → t ≡ all (heard_in_range z) (places_at i bytes) → u ≡ heard_in_range z (heard_at bytes (heard_place i))
-    → (t && u) ≡ all (heard_in_range z) (places_at (i + 1) bytes)
+-- the first places, by the numbers of their proposers
+places_listed : (n : ℕ) (bytes : List ℕ) → places_at n bytes ≡ map (λ i. heard_at bytes (heard_place i)) (range_with_len 0 n)
 unfolding places_at
-test-place z i bytes e f = rw (e, f, add-one i) (all_snoc (heard_in_range z) (places_at i bytes) (heard_at bytes (heard_place i)))
+places_listed zero bytes = refl
+places_listed (suc n) bytes =
+    let f = λ (i : ℕ). heard_at bytes (heard_place i) in
+    ap (λ (hs : List Heard). hs ++ f n ∷ []) (places_listed n bytes)
+    ∙ sym (map-range_with_len_more f 0 n n (omega arith))
+    ∙ ap (λ (k : ℕ). map f (range_with_len 0 k)) (add-one n)
+
+all_mapped : {A B : Type 0} (f : B → Bool) (g : A → B) (xs : List A) → list_all (λ x. f (g x)) xs ≡ all f (map g xs)
+unfolding all
+all_mapped f g [] = refl
+all_mapped f g (x ∷ xs) = ap (λ (t : Bool). f (g x) && t) (all_mapped f g xs)
+
+pub places-tested : (z : Sizes) (n : ℕ) (bytes : List ℕ)
+    → list_all (λ i. heard_in_range z (heard_at bytes (heard_place i))) (range_with_len 0 n) ≡ all (heard_in_range z) (places_at n bytes)
+places-tested z n bytes =
+    all_mapped (heard_in_range z) (λ i. heard_at bytes (heard_place i)) (range_with_len 0 n) ∙ ap (λ (hs : List Heard). all (heard_in_range z) hs) (sym (places_listed n bytes))
 
 -- what is left to test of a learner's record after its sizes, its length, its flag and what it learnt
 pub learner-left : (p a s : ℕ) (bytes : List ℕ) {t : Bool} → sizes_in_range (sizes_of p a s) ≡ true → length bytes ≡ heard_place p → is_flag bytes 0 ≡ true → fits (set_at bytes 1) s ≡ t

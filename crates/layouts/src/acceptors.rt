@@ -4,7 +4,9 @@ ghost use Rattle.layouts.specs.Layout.{is_acceptor, acceptor_at};
 
 use crate::fields::{FLAGGED_SIZE, flag_at, is_flag, set_at, sizes_of};
 use model::Acceptor;
+use model::records::Record;
 
+#[tactic(auto, unfolding(crate::specs::Layout::acceptor_at))]
 pub fn acceptor_at(kept: &[u8]) -> Acceptor
     ensures { result ≡ acceptor_at kept.now }
 {

@@ -1,5 +1,5 @@
 // A learner's record: alive and learnt, then a place for each proposer of the run.
-ghost use Rattle.std.specs.Prelude.{◌≡◌, ◌≤◌};
+ghost use Rattle.std.specs.Prelude.{◌≡◌};
 ghost use Rattle.std.proofs.lemmas.List.Edits.{sets};
 ghost use Rattle.layouts.specs.Layout.{heard_place, heard_at, heard_bytes, places_at, is_learner};
 ghost use Rattle.model.specs.Ranges.{all, heard_in_range};
@@ -8,7 +8,6 @@ use crate::fields::{
     FLAGGED_SIZE, SET_SIZE, acceptors_at, is_flag, number_at, put_acceptors, put_number, put_set,
     set_at, sizes_of,
 };
-use choice::both;
 use model::Heard;
 use sets::ProposerId;
 use sizes::Sizes;
@@ -25,7 +24,9 @@ fn place_of(proposer: ProposerId) -> u16
     FLAGGED_SIZE + HEARD_SIZE * proposer.0 as u16
 }
 
-// What was heard of one proposer.
+// What was heard of one proposer. Inlined, since a learner's test reads each place.
+#[inline(always)]
+#[tactic(auto, unfolding(crate::specs::Layout::heard_at))]
 pub fn heard_at(kept: &[u8], proposer: ProposerId) -> Heard
     ensures { result ≡ heard_at kept.now (heard_place proposer.0) }
 {
@@ -50,17 +51,10 @@ pub fn put_heard(kept: &mut [u8], proposer: ProposerId, heard: Heard)
 }
 
 // Whether what was heard of the first proposers is within its ranges.
-fn places_in_range(kept: &[u8], count: u16, z: Sizes) -> bool
-    requires { count ≤ 8 }
+fn places_in_range(kept: &[u8], count: u8, z: Sizes) -> bool
     ensures { result ≡ all (heard_in_range z) (places_at count kept.now) }
 {
-    let mut sound = true;
-    let mut i: u16 = 0;
-    while i < count {
-        sound = both(sound, heard_at(kept, ProposerId(i as u8)).in_range(z));
-        i += 1;
-    }
-    sound
+    (0..count).all(|i| heard_at(kept, ProposerId(i)).in_range(z))
 }
 
 // Whether the bytes are a learner's record of a run of these sizes.
@@ -80,5 +74,6 @@ pub fn is_learner(kept: &[u8], proposers: u64, acceptors: u64, scans: u64) -> bo
     if !set_at(kept, 1).fits(z.scans as u32) {
         return false;
     }
-    places_in_range(kept, z.proposers, z)
+    let count = z.proposers as u8;
+    places_in_range(kept, count, z)
 }

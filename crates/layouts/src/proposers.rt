@@ -1,5 +1,5 @@
-// A proposer's record.
-ghost use Rattle.std.specs.Prelude.{◌≡◌};
+// A proposer's record. It alone is read and put whole (an acceptor's is put as a flag and a set, a learner's place by place), so that a trait over records would have one use.
+ghost use Rattle.std.specs.Prelude.{◌≡◌, if◌then◌else◌};
 ghost use Rattle.std.proofs.lemmas.List.Edits.{sets};
 ghost use Rattle.layouts.specs.Layout.{is_proposer, proposer_at, proposer_bytes};
 
@@ -8,6 +8,7 @@ use crate::fields::{
     put_set, set_at, sizes_of,
 };
 use model::Proposer;
+use model::records::Record;
 
 // Where a field begins after the two flags, and the length of all.
 const BUFFERED: u16 = 2;
@@ -26,6 +27,7 @@ const DECIDED: u16 = REJECTED + 1;
 
 const PROPOSER_SIZE: u16 = DECIDED + SET_SIZE;
 
+#[tactic(auto, unfolding(crate::specs::Layout::proposer_at))]
 pub fn proposer_at(kept: &[u8]) -> Proposer
     ensures { result ≡ proposer_at kept.now }
 {
@@ -51,6 +53,8 @@ pub fn proposer_at(kept: &[u8]) -> Proposer
     }
 }
 
+// Inlined, so that a call stores the fields alone that it changes.
+#[inline(always)]
 pub fn put_proposer(kept: &mut [u8], p: Proposer)
     ensures { kept.new ≡ sets kept.old 0 (proposer_bytes p) }
 {
@@ -83,4 +87,11 @@ pub fn is_proposer(kept: &[u8], acceptors: u64, scans: u64) -> bool
         return false;
     }
     proposer_at(kept).in_range(z)
+}
+
+// The proposer whose record the bytes are, or none.
+pub fn read_proposer(kept: &[u8], acceptors: u64, scans: u64) -> Option<Proposer>
+    ensures { result ≡ (if is_proposer acceptors scans kept.now then Some (proposer_at kept.now) else None) }
+{
+    is_proposer(kept, acceptors, scans).then(|| proposer_at(kept))
 }

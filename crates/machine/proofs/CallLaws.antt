@@ -1,60 +1,32 @@
--- Laws of the calls on records that a caller lends: where fresh refuses nothing every record is made fresh, and otherwise none.
-use mathlib.Core.Path.{◌≡◌, refl, sym, ◌∙◌, ap}
-use Prim.Native.Nat.{ℕ, ◌≤◌}
-use native.Mathlib.Omega.{arith}
-use mathlib.Core.Bool.{Bool, true, false, ◌&&◌}
-use mathlib.Core.List.{List, ◌++◌, append-nil}
+-- Laws of the calls. The one that makes records fresh: where it refuses nothing every record is made fresh, and otherwise none. A run's refusal is that of its tests.
+use mathlib.Core.Path.{◌≡◌, refl, sym, ap, subst}
+use Prim.Native.Nat.{ℕ}
+use mathlib.Core.Bool.{Bool, true, ◌&&◌}
+use mathlib.Core.List.{List}
 use lib.Dec.{eqb}
-use lib.ListN.{length, replicate, drop_of_length-le}
+use lib.ListN.{length, replicate}
 use borrow.Author.Tests.{eqb-true}
 use Rattle.std.specs.Prelude.{if◌then◌else◌}
 use Rattle.sizes.specs.Sizes.{sizes_in_range}
 use Rattle.sizes.specs.declared.Sizes.{Sizes}
 use Rattle.model.specs.Records.{State, fresh, fresh_proposer, fresh_acceptor, fresh_learner, free_slot}
 use Rattle.choice.specs.Tests.{◌unless◌, ◌⨾◌, ok}
-use Rattle.model.specs.Ranges.{lengths_in_range}
+use Rattle.model.specs.Ranges.{all, proposer_in_range, acceptor_in_range, learner_in_range, message_in_range, lengths_in_range, records_in_range}
 use Rattle.model.specs.declared.Proposer.{Proposer}
 use Rattle.model.specs.declared.Acceptor.{Acceptor}
 use Rattle.model.specs.declared.Learner.{Learner}
 use Rattle.model.specs.declared.Message.{Message}
 use Rattle.choice.proofs.Tests.{and_l, and_r}
-use Rattle.machine.specs.Calls.{lent, fresh_no, after_fresh}
-use Rattle.machine.specs.Counting.{lengths_are, turns_of, sized_no}
-use Rattle.machine.proofs.Filled.{filled}
-
--- ---- one list of n records, by the test b
-
-abbrev refusing : Bool → ℕ
-refusing b = 1 unless b ⨾ ok
-
-module _ {X : Type 0} (l : List X) (n : ℕ) where
-  few-by : (b : Bool) → (b ≡ true → length l ≡ n) → turns_of (refusing b) n ≤ length l
-  few-by true h = omega (arith, h refl)
-  few-by false h = omega arith
-
-  all-filled : (d : X) → length l ≡ n → filled n d l ≡ replicate n d
-  all-filled d h = ap (λ (r : List X). replicate n d ++ r) (drop_of_length-le l {i = n} (omega (arith, h))) ∙ append-nil (replicate n d)
-
-  filled-by : (d : X) (b : Bool) (of : State → List X) (s₀ s : State) → of s₀ ≡ replicate n d → of s ≡ l → (b ≡ true → length l ≡ n) → filled (turns_of (refusing b) n) d l ≡ of (if eqb (refusing b) 0 then s₀ else s)
-  filled-by d true of s₀ s e₀ e h = all-filled d (h refl) ∙ sym e₀
-  filled-by d false of s₀ s e₀ e h = sym e
-
--- ---- the records that a caller lends
+use Rattle.machine.specs.Calls.{lent, Leaves, FreshCall, run_no}
+use Rattle.machine.specs.Counting.{lengths_are, events_no}
 
 module _ (z : Sizes) (ps : List Proposer) (acs : List Acceptor) (ls : List Learner) (t : List Message) where
   abbrev s : State
   s = lent ps acs ls t
 
-  abbrev refusal : ℕ
-  refusal = sized_no z (length ps) (length acs) (length ls) (length t)
-
   -- the test of sizes and lengths
   abbrev sized : Bool
   sized = sizes_in_range z && lengths_are z (length ps) (length acs) (length ls) (length t)
-
-  pub refused-fresh : refusal ≡ fresh_no z s
-  unfolding lengths_in_range
-  refused-fresh = refl
 
   abbrev p : Bool
   p = eqb (length ps) z.proposers
@@ -86,32 +58,28 @@ module _ (z : Sizes) (ps : List Proposer) (acs : List Acceptor) (ls : List Learn
   all_slots : sized ≡ true → length t ≡ z.slots
   all_slots e = eqb-true (length t) z.slots (and_r (p && a && l) m (lengths e))
 
-  -- so many are there
-  pub proposers-there : turns_of refusal z.proposers ≤ length ps
-  proposers-there = few-by ps z.proposers sized all-proposers
+  -- the call, by its test
+  abbrev pub called : Bool → ℕ → State → Type 0
+  called b r u = (r ≡ (1 unless b ⨾ ok)) × Leaves u (if eqb (1 unless b ⨾ ok) 0 then fresh z else s)
 
-  pub acceptors-there : turns_of refusal z.acceptors ≤ length acs
-  acceptors-there = few-by acs z.acceptors sized all-acceptors
+  -- as many as there are
+  abbrev pub all_fresh : State
+  all_fresh = lent (replicate (length ps) fresh_proposer) (replicate (length acs) fresh_acceptor) (replicate (length ls) fresh_learner) (replicate (length t) free_slot)
 
-  pub learners-there : turns_of refusal z.learners ≤ length ls
-  learners-there = few-by ls z.learners sized all-learners
-
-  pub slots-there : turns_of refusal z.slots ≤ length t
-  slots-there = few-by t z.slots sized all_slots
-
-  -- what is left when so many are made fresh
-  pub fresh-proposers : filled (turns_of refusal z.proposers) fresh_proposer ps ≡ (after_fresh z s).proposers
+  pub made-fresh : sized ≡ true → FreshCall z s 0 all_fresh
   unfolding fresh lengths_in_range
-  fresh-proposers = filled-by ps z.proposers fresh_proposer sized (λ (r : State). r.proposers) (fresh z) s refl refl all-proposers
+  made-fresh h =
+      subst (λ (b : Bool). called b 0 all_fresh) (sym h) (
+        refl,
+        (
+          ap (λ (n : ℕ). replicate n fresh_proposer) (all-proposers h),
+          (ap (λ (n : ℕ). replicate n fresh_acceptor) (all-acceptors h), (ap (λ (n : ℕ). replicate n fresh_learner) (all-learners h), ap (λ (n : ℕ). replicate n free_slot) (all_slots h))),
+        ),
+      )
 
-  pub fresh-acceptors : filled (turns_of refusal z.acceptors) fresh_acceptor acs ≡ (after_fresh z s).acceptors
-  unfolding fresh lengths_in_range
-  fresh-acceptors = filled-by acs z.acceptors fresh_acceptor sized (λ (r : State). r.acceptors) (fresh z) s refl refl all-acceptors
-
-  pub fresh-learners : filled (turns_of refusal z.learners) fresh_learner ls ≡ (after_fresh z s).learners
-  unfolding fresh lengths_in_range
-  fresh-learners = filled-by ls z.learners fresh_learner sized (λ (r : State). r.learners) (fresh z) s refl refl all-learners
-
-  pub fresh-slots : filled (turns_of refusal z.slots) free_slot t ≡ (after_fresh z s).slots
-  unfolding fresh lengths_in_range
-  fresh-slots = filled-by t z.slots free_slot sized (λ (r : State). r.slots) (fresh z) s refl refl all_slots
+  -- the refusal of a run, by its tests
+  pub run-refused : (ns log : List ℕ) (n : ℕ)
+      → (1 unless (sized && all (proposer_in_range z) ps && all (acceptor_in_range z) acs && all (learner_in_range z) ls && all (message_in_range z) t) ⨾ events_no (length ns) (length log) n)
+      ≡ run_no z s ns n log
+  unfolding records_in_range lengths_in_range
+  run-refused ns log n = refl

@@ -12,22 +12,28 @@ use Rattle.std.specs.Prelude.{if◌then◌else◌}
 use Rattle.sizes.specs.Sizes.{scans_in_range, sizes_in_range}
 use Rattle.sizes.specs.declared.Sizes.{Sizes}
 use Rattle.sets.specs.Scans.{most_scans}
-use Rattle.model.specs.Records.{State, Kind, free, internal, proposal, acknowledgement, rejection, announcement, no_kind, kind_of, Role, a_proposer, an_acceptor, a_learner, no_role, role_of, addressed, proposer_of, acceptor_of, learner_of, slot_of, freeing}
+use Rattle.model.specs.Records.{State, kind_of, role_of, addressed, proposer_of, acceptor_of, learner_of, slot_of, freeing}
+use Rattle.model.specs.declared.Kind.{Kind}
+use Rattle.model.specs.declared.Kind.TheVariants.{Free as free, Internal as internal, Proposal as proposal, Acknowledgement as acknowledgement, Rejection as rejection, Announcement as announcement, NoKind as no_kind}
+use Rattle.model.specs.declared.Role.{Role}
+use Rattle.model.specs.declared.Role.TheVariants.{Proposer as a_proposer, Acceptor as an_acceptor, Learner as a_learner, NoRole as no_role}
 use Rattle.model.specs.Table.{is_free}
 use Rattle.choice.specs.Tests.{◌unless◌, ◌⨾◌, refusal, ok}
 use Rattle.model.specs.Rules.{is_current, propose_no, after_propose, refine_no, after_refine, decide_no, after_decide, accepts, accepting, gaining, answering}
 use Rattle.model.specs.Ranges.{all, fields_in_range, message_in_range}
-use Rattle.model.specs.Events.{Code, receive, deliver, drop, duplicate, propose, refine, decide, crash, no_code, Effect, quiet, effect, delivery, proposes, crashed, exists, is_alive, has_room, tests}
+use Rattle.model.specs.Events.{Effect, quiet, effect, delivery, proposes, crashed, exists, is_alive, has_room, tests}
+use Rattle.model.specs.declared.Code.{Code}
+use Rattle.model.specs.declared.Code.TheVariants.{Receive as receive, Deliver as deliver, Drop as drop, Duplicate as duplicate, Propose as propose, Refine as refine, Decide as decide, Crash as crash, NoCode as no_code}
 use Rattle.model.specs.declared.Proposer.{Proposer}
 use Rattle.model.specs.declared.Acceptor.{Acceptor}
 use Rattle.model.specs.declared.Learner.{Learner}
 use Rattle.model.specs.declared.Message.{Message}
 use Rattle.model.specs.declared.Event.{Event}
 use Rattle.model.specs.declared.Answer.{Answer}
-use Rattle.model.specs.declared.Answer.TheVariants.{Ok}
+use Rattle.model.specs.declared.Answer.TheVariants.{Done}
 use Rattle.choice.proofs.Tests.{and_l, and_r, test-passed, rest-passed, no-refusal}
 use Rattle.model.proofs.RuleRanges.{all-at}
-use Rattle.decisions.specs.declared.decide.Change.{Change}
+use Rattle.decisions.specs.Change.{Changes}
 use Rattle.decisions.specs.Sending.{items_of}
 use Rattle.decisions.specs.Change.{as_proposer, as_scan, acceptor_sends, answering_of, acknowledged_by, rejected_by, delivering_of, crashing_of, receiving_of, change_of, learner_after, slot_after, learner_answer, answer_of}
 use Rattle.decisions.specs.Refusals.{alive_in, test_no}
@@ -107,7 +113,7 @@ module _ (z : Sizes) (s : State) (i j k x : ℕ) where
   m = slot_of s x
 
   -- a change, written back, and an answer are what the model does
-  pub record Does (d : Change) (w : Answer) (f : Effect) : Type 0 where
+  pub record Does (d : Changes) (w : Answer) (f : Effect) : Type 0 where
     pub answer : w ≡ f.answer
     pub proposers : set s.proposers i d.proposer ≡ f.left.proposers
     pub acceptors : set s.acceptors j d.acceptor ≡ f.left.acceptors
@@ -153,7 +159,7 @@ module _ (z : Sizes) (s : State) (i j k x : ℕ) where
   abbrev DeliveryDoes : Kind → Type 0
   DeliveryDoes kind =
       Does (delivering_of z m q c kind)
-      (if (delivering_of z m q c kind).hears then learner_answer z m l else Ok)
+      (if (delivering_of z m q c kind).hears then learner_answer z m l else Done)
       (delivery z (freeing s x) m kind)
 
   internal-does : i ≡ m.addressee → DeliveryDoes internal
@@ -274,7 +280,7 @@ module _ (z : Sizes) (s : State) (i j k x : ℕ) where
 
   -- ---- Crash, by role
 
-  crashed-does : (r : Role) (p : ℕ) → At z i j k p → exists z r p ≡ true → Does (crashing_of q c r) Ok (quiet (crashed s r p))
+  crashed-does : (r : Role) (p : ℕ) → At z i j k p → exists z r p ≡ true → Does (crashing_of q c r) Done (quiet (crashed s r p))
   unfolding crashing_of crashed learner_after slot_after
   crashed-does a_proposer p at h = rw (← (at.proposer (ltb-true p z.proposers h))) (search (same, items-silence))
   crashed-does an_acceptor p at h = rw (← (at.acceptor (ltb-true p z.acceptors h))) (search (same, items-silence))

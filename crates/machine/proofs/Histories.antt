@@ -6,7 +6,7 @@ use Prim.Native.Nat.{ℕ, zero, suc}
 use native.Mathlib.Omega.{arith}
 use lib.Dec.{eqb}
 use lib.ListN.{length, get_or}
-use Rattle.std.specs.Prelude.{if◌then◌else◌}
+use Rattle.std.specs.Prelude.{if◌then◌else◌, Ok}
 use Rattle.sizes.specs.Sizes.{sizes_in_range}
 use Rattle.sizes.specs.declared.Sizes.{Sizes}
 use Rattle.model.specs.Records.{State, fresh}
@@ -18,7 +18,7 @@ use Rattle.model.specs.declared.Acceptor.{Acceptor}
 use Rattle.model.specs.declared.Learner.{Learner}
 use Rattle.model.specs.declared.Message.{Message}
 use Rattle.model.specs.declared.Event.{Event}
-use Rattle.model.specs.declared.Answer.TheVariants.{Ok}
+use Rattle.model.specs.declared.Answer.TheVariants.{Done}
 use Rattle.model.proofs.Moments.{last}
 use Rattle.model.proofs.Safety.{safe}
 use Rattle.machine.specs.Calls.{events_in, lent, Leaves, StepCall, SaidCall, after_fresh, run_no, after_run}
@@ -42,7 +42,7 @@ unfolding run
 run_on z s [] fs = refl
 run_on z s (e ∷ es) fs = run_on z (step z s e).state es fs
 
-answer-last : (z : Sizes) (s : State) (es : List Event) (e : Event) → get_or (answers z s (es ++ (e ∷ []))) (length es) Ok ≡ (step z (run z s es) e).answer
+answer-last : (z : Sizes) (s : State) (es : List Event) (e : Event) → get_or (answers z s (es ++ (e ∷ []))) (length es) (Ok Done) ≡ (step z (run z s es) e).answer
 unfolding run answers
 answer-last z s [] e = refl
 answer-last z s (f ∷ es) e = answer-last z (step z s f).state es e

@@ -21,8 +21,11 @@ module _ {X : Type 0} (f : X → Bool) (l : List X) where
   unfolding all
   none_left a = and-true a
 
-  pub all-on : (i : ℕ) (d : X) (a : Bool) → i < length l → ((a && f (get_or l i d)) && all f (drop (i + 1) l)) ≡ (a && all f (drop i l))
-  all-on i d a h = on-by (get_or l i d) (drop (i + 1) l) a ∙ ap (λ (r : List X). a && all f r) (sym (drop-next l i d h))
+  pub all-on : (i : ℕ) (x : X) (a : Bool) → i < length l → x ≡ get_or l i x → ((a && f x) && all f (drop (i + 1) l)) ≡ (a && all f (drop i l))
+  all-on i x a h e =
+      on-by x (drop (i + 1) l) a
+      ∙ ap (λ (y : X). a && all f (y ∷ drop (i + 1) l)) e
+      ∙ ap (λ (r : List X). a && all f r) (sym (drop-next l i x h))
 
   pub all-off : (i : ℕ) (a : Bool) → length l ≤ i → (a && all f (drop i l)) ≡ a
   all-off i a h = ap (λ (r : List X). a && all f r) (drop_of_length-le l h) ∙ none_left a

@@ -7,16 +7,12 @@ pub mod RunLaws
 pub mod ReadBack
 pub mod Longer
 pub mod CallLaws
-pub mod CallTests
 pub mod AnswerNumbers
 pub mod LoopsOverSteps
 pub mod Histories
 pub mod LeftOver
 pub mod Judging
-pub mod Filled
 pub mod Roles
-pub mod Ids
 pub mod Ears
 pub mod Arms
-pub mod Heards
 pub mod Replies

@@ -1,9 +1,8 @@
 -- A step and a run on more records and slots than the run's sizes say: the first of them go as if they were all, and what stands behind them stays, where each slot there is taken.
-use mathlib.Core.Path.{◌≡◌, refl, sym, ◌∙◌, ap, subst}
+use mathlib.Core.Path.{◌≡◌, refl, sym, ◌∙◌, ap}
 use mathlib.Core.Bool.{Bool, true, false}
 use mathlib.Core.List.{List, [], ◌∷◌, ◌++◌}
-use Prim.Native.Nat.{ℕ, zero, suc, ◌+◌, ◌*◌, ◌-◌, ◌≤◌}
-use native.Mathlib.Nat.{not-suc-le-zero}
+use Prim.Native.Nat.{ℕ, zero, suc, ◌+◌, ◌-◌, ◌≤◌}
 use native.Mathlib.Omega.{arith}
 use lib.Dec.{eqb, leb}
 use lib.ListN.{length, get_or, set, drop, replicate, length-append, length-set, replicate-append-replicate, get_or-append}
@@ -16,7 +15,6 @@ use Rattle.sizes.proofs.SizeLaws.{bounds}
 use Rattle.sizes.specs.declared.Sizes.{Sizes}
 use Rattle.model.specs.Records.{fresh, fresh_proposer, fresh_acceptor, fresh_learner, free_slot}
 use Rattle.model.specs.Table.{is_free, free_slots, place, post}
-use Rattle.choice.specs.Tests.{◌unless◌, ◌⨾◌, ok}
 use Rattle.model.specs.Ranges.{all, records_in_range}
 use Rattle.model.specs.Step.{run, answers}
 use Rattle.model.specs.declared.Proposer.{Proposer}
@@ -29,16 +27,14 @@ use Rattle.model.proofs.States.{length-post}
 use Rattle.model.proofs.InRange.{run-in-range}
 use Rattle.decisions.specs.Sending.{is_taken, items_of}
 use Rattle.decisions.specs.Change.{learner_after, slot_after}
-use Rattle.decisions.specs.declared.arms.Decision.{Decision}
 use Rattle.machine.specs.Stepping.{index_in, party_of, reply_of, Fits, Left, the_message, step_of}
-use Rattle.decisions.specs.Arms.{decide_of, finish_of}
+use Rattle.decisions.specs.Arms.{Decision, decide_of, finish_of}
 use Rattle.machine.specs.Running.{Ran, onward, ran_to, driven, Drives}
-use Rattle.machine.specs.Log.{per_answer, logged, noted}
+use Rattle.machine.specs.Log.{logged, noted}
 use Rattle.machine.specs.Calls.{event_of, events_in, has_numbers, whole_run_no, log_after_whole_run}
-use Rattle.machine.specs.Counting.{turns_of}
 use Rattle.machine.proofs.Posting.{others-take}
 use Rattle.machine.proofs.Readiness.{proposer-there, acceptor-there, learner-there, slot-there}
-use Rattle.machine.proofs.RunLaws.{driven-ends, in-range-fits, numbers-there}
+use Rattle.machine.proofs.RunLaws.{driven-ends, in-range-fits, numbers-there, none-refused}
 
 -- ---- the table, with taken slots behind
 
@@ -210,37 +206,26 @@ first_fits z ps acs ls t h x =
     let m = longer-enough z.slots (fresh z).slots x.more_slots t fit.1.1.1.1 x.slots in
     (h, (p, (a, (l, m))))
 
-module _ (z : Sizes) (ps : List Proposer) (acs : List Acceptor) (ls : List Learner) (t : List Message) (ns : List ℕ) (n : ℕ) (log : List ℕ) (first : sizes_in_range z ≡ true → leb n most_events ≡ true → has_numbers ns n log ≡ true → FreshFirst z ps acs ls t) where
-  whole-run-drives-by : (u w v : Bool) → sizes_in_range z ≡ u → leb n most_events ≡ w → has_numbers ns n log ≡ v
-      → Drives z ps acs ls t ns log (if eqb (1 unless u ⨾ 3 unless w ⨾ 8 unless v ⨾ ok) 0 then n else 0)
-  whole-run-drives-by true true true h f k some = (first_fits z ps acs ls t h (first h f k), numbers-there ns n log k)
-  whole-run-drives-by true true false h f k some = absurd (not-suc-le-zero some)
-  whole-run-drives-by true false v h f k some = absurd (not-suc-le-zero some)
-  whole-run-drives-by false w v h f k some = absurd (not-suc-le-zero some)
+module _ (z : Sizes) (ns : List ℕ) (n : ℕ) (log : List ℕ) (h : whole_run_no z ns n log ≡ 0) where
+  pub passed : (sizes_in_range z ≡ true) × (has_numbers ns n log ≡ true)
+  passed = none-refused (sizes_in_range z) (leb n most_events) (has_numbers ns n log) h
 
-  pub whole-run-drives : Drives z ps acs ls t ns log (if eqb (whole_run_no z ns n log) 0 then n else 0)
-  whole-run-drives = whole-run-drives-by (sizes_in_range z) (leb n most_events) (has_numbers ns n log) refl refl refl
+  pub slots-few : z.slots ≤ 512
+  slots-few = (bounds z passed.0).few-slots
 
-module _ (z : Sizes) (ps : List Proposer) (acs : List Acceptor) (ls : List Learner) (t : List Message) (ns : List ℕ) (n : ℕ) (log : List ℕ) (first : sizes_in_range z ≡ true → leb n most_events ≡ true → has_numbers ns n log ≡ true → FreshFirst z ps acs ls t) where
-  -- all n events
-  first-log : sizes_in_range z ≡ true → FreshFirst z ps acs ls t → per_answer * n ≤ length log → (driven z ps acs ls t ns log n).log ≡ logged (answers z (fresh z) (events_in ns n)) log
-  first-log h x room =
-      (λ i. (driven z (x.proposers i) (x.acceptors i) (x.learners i) (x.slots i) ns log n).log)
-      ∙ ap (λ (r : Ran). r.log) (driven-longer z (fresh z).proposers (fresh z).acceptors (fresh z).learners (fresh z).slots (fresh-fits z h) ns log x.more_proposers x.more_acceptors x.more_learners x.more_slots x.taken n)
-      ∙ (driven-ends z (fresh z).proposers (fresh z).acceptors (fresh z).learners (fresh z).slots ns log (fresh-in-range z h) n room).log
+  module _ (ps : List Proposer) (acs : List Acceptor) (ls : List Learner) (t : List Message) (x : FreshFirst z ps acs ls t) where
+    pub whole-run-drives : Drives z ps acs ls t ns log n
+    whole-run-drives = (first_fits z ps acs ls t passed.0 x, numbers-there ns n log passed.1)
 
-  whole-run-log-by : (u w v : Bool) → sizes_in_range z ≡ u → leb n most_events ≡ w → has_numbers ns n log ≡ v
-      → (driven z ps acs ls t ns log (if eqb (1 unless u ⨾ 3 unless w ⨾ 8 unless v ⨾ ok) 0 then n else 0)).log
-      ≡ (if eqb (1 unless u ⨾ 3 unless w ⨾ 8 unless v ⨾ ok) 0 then logged (answers z (fresh z) (events_in ns n)) log else log)
-  unfolding ran_to
-  whole-run-log-by true true true h f k = first-log h (first h f k) (numbers-there ns n log k).1
-  whole-run-log-by true true false h f k = refl
-  whole-run-log-by true false v h f k = refl
-  whole-run-log-by false w v h f k = refl
+    -- the log after all n events
+    all-logged : (driven z ps acs ls t ns log n).log ≡ logged (answers z (fresh z) (events_in ns n)) log
+    all-logged =
+        (λ i. (driven z (x.proposers i) (x.acceptors i) (x.learners i) (x.slots i) ns log n).log)
+        ∙ ap (λ (r : Ran). r.log) (driven-longer z (fresh z).proposers (fresh z).acceptors (fresh z).learners (fresh z).slots (fresh-fits z passed.0) ns log x.more_proposers x.more_acceptors x.more_learners x.more_slots x.taken n)
+        ∙ (driven-ends z (fresh z).proposers (fresh z).acceptors (fresh z).learners (fresh z).slots ns log (fresh-in-range z passed.0) n (numbers-there ns n log passed.1).1).log
 
-  -- the log after the call of a whole run: of all n events where nothing is refused, and otherwise as it was
-  pub whole-run-log : (driven z ps acs ls t ns log (if eqb (whole_run_no z ns n log) 0 then n else 0)).log ≡ log_after_whole_run z ns n log
-  whole-run-log = whole-run-log-by (sizes_in_range z) (leb n most_events) (has_numbers ns n log) refl refl refl
+    pub whole-run-log : (driven z ps acs ls t ns log n).log ≡ log_after_whole_run z ns n log
+    whole-run-log = all-logged ∙ ap (λ (r : ℕ). if eqb r 0 then logged (answers z (fresh z) (events_in ns n)) log else log) (sym h)
 
 -- ---- as many records and slots as any run has
 
@@ -260,7 +245,7 @@ copies-first n k x h =
     ap (λ (m : ℕ). replicate m x) e ∙ sym (replicate-append-replicate k (n - k) x)
 
 -- 8 proposers, 7 acceptors and 8 learners, all fresh, and n slots, of which the first M are free and the others hold a message x
-most-fresh-first : (z : Sizes) (n : ℕ) (x : Message) → is_taken x ≡ true → sizes_in_range z ≡ true
+pub most-fresh-first : (z : Sizes) (n : ℕ) (x : Message) → is_taken x ≡ true → sizes_in_range z ≡ true
     → FreshFirst z (replicate 8 fresh_proposer) (replicate 7 fresh_acceptor) (replicate 8 fresh_learner) (replicate z.slots free_slot ++ drop z.slots (replicate n x))
 unfolding fresh
 most-fresh-first z n x tk h =
@@ -276,21 +261,3 @@ most-fresh-first z n x tk h =
       slots = refl;
       taken = taken-drop z.slots (replicate n x) (taken-copies x tk n);
     }
-
--- ---- the slots of a whole run: where nothing is refused the first M are free, and the others hold a message x
-
-module _ (z : Sizes) (ns : List ℕ) (n : ℕ) (log : List ℕ) where
-  slots-by : (u w v : Bool) → sizes_in_range z ≡ u → turns_of (1 unless u ⨾ 3 unless w ⨾ 8 unless v ⨾ ok) z.slots ≤ 512
-  slots-by true true true h = (bounds z h).few-slots
-  slots-by true true false h = omega arith
-  slots-by true false v h = omega arith
-  slots-by false w v h = omega arith
-
-  pub slots-few : turns_of (whole_run_no z ns n log) z.slots ≤ 512
-  slots-few = slots-by (sizes_in_range z) (leb n most_events) (has_numbers ns n log) refl
-
-  pub whole-run-first : (m : ℕ) (x : Message) → is_taken x ≡ true → sizes_in_range z ≡ true → leb n most_events ≡ true → has_numbers ns n log ≡ true
-      → FreshFirst z (replicate 8 fresh_proposer) (replicate 7 fresh_acceptor) (replicate 8 fresh_learner) (replicate (turns_of (whole_run_no z ns n log) z.slots) free_slot ++ drop (turns_of (whole_run_no z ns n log) z.slots) (replicate m x))
-  whole-run-first m x tk h f k =
-      subst (λ (s : ℕ). FreshFirst z (replicate 8 fresh_proposer) (replicate 7 fresh_acceptor) (replicate 8 fresh_learner) (replicate s free_slot ++ drop s (replicate m x)))
-      (sym (λ i. turns_of (1 unless h i ⨾ 3 unless f i ⨾ 8 unless k i ⨾ ok) z.slots)) (most-fresh-first z m x tk h)

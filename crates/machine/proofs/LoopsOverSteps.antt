@@ -1,11 +1,10 @@
 -- What a loop over steps keeps.
---     at-end, fits_byte    numbers of a loop that counts k up to n
 --     still-fit        records fit while there are as many of each
 --     event-there, answer-there    event k of n is in a schedule's numbers, and answer k has room in a log
---     ran-none, ran-next       a run over no event, and over one more.        times_none, times-next     the same of one event that is done again
+--     ran-none, ran-next       a run over no event, and over one more
 use mathlib.Core.Path.{◌≡◌, refl, sym, ◌∙◌, ap, subst}
 use mathlib.Core.List.{List}
-use Prim.Native.Nat.{ℕ, ◌+◌, ◌*◌, ◌<◌, ◌≤◌, ◌^◌}
+use Prim.Native.Nat.{ℕ, ◌+◌, ◌*◌, ◌<◌, ◌≤◌}
 use native.Mathlib.Omega.{arith}
 use native.Mathlib.Numerals.{add-one}
 use lib.ListN.{length}
@@ -14,17 +13,10 @@ use Rattle.model.specs.declared.Proposer.{Proposer}
 use Rattle.model.specs.declared.Acceptor.{Acceptor}
 use Rattle.model.specs.declared.Learner.{Learner}
 use Rattle.model.specs.declared.Message.{Message}
-use Rattle.model.specs.declared.Event.{Event}
-use Rattle.machine.specs.Stepping.{Left, step_of, Fits}
-use Rattle.machine.specs.Running.{Ran, onward, ran_to, times_from}
+use Rattle.machine.specs.Stepping.{Fits}
+use Rattle.machine.specs.Running.{Ran, onward, ran_to}
 use Rattle.machine.specs.Log.{per_answer}
 use Rattle.machine.specs.Calls.{event_of}
-
-pub at-end : (k n : ℕ) → k ≤ n → n ≤ k → k ≡ n
-at-end k n l r = omega arith
-
-pub fits_byte : (k n : ℕ) → k < n → n < 2 ^ 8 → k + 1 < 2 ^ 8
-fits_byte k n l r = omega arith
 
 pub still-fit : (z : Sizes) (ps ps' : List Proposer) (acs acs' : List Acceptor) (ls ls' : List Learner) (t t' : List Message) → length ps' ≡ length ps → length acs' ≡ length acs → length ls' ≡ length ls → length t' ≡ length t → Fits z ps acs ls t → Fits z ps' acs' ls' t'
 still-fit z ps ps' acs acs' ls ls' t t' e₀ e₁ e₂ e₃ fit =
@@ -43,11 +35,3 @@ ran-none z ns r = refl
 pub ran-next : (z : Sizes) (ns : List ℕ) (r₀ r : Ran) (k : ℕ) → r ≡ ran_to z ns r₀ k → onward z (event_of ns k) k r ≡ ran_to z ns r₀ (k + 1)
 unfolding ran_to
 ran-next z ns r₀ r k e = ap (onward z (event_of ns k) k) e ∙ ap (ran_to z ns r₀) (sym (add-one k))
-
-pub times_none : (z : Sizes) (e : Event) (l : Left) → l ≡ times_from z e l 0
-unfolding times_from
-times_none z e l = refl
-
-pub times-next : (z : Sizes) (e : Event) (l₀ l : Left) (k : ℕ) → l ≡ times_from z e l₀ k → step_of z e l.proposers l.acceptors l.learners l.slots ≡ times_from z e l₀ (k + 1)
-unfolding times_from
-times-next z e l₀ l k same = ap (λ (m : Left). step_of z e m.proposers m.acceptors m.learners m.slots) same ∙ ap (times_from z e l₀) (sym (add-one k))

@@ -14,7 +14,7 @@ use Rattle.model.specs.Table.{is_free, free_slots, place, post, from}
 use Rattle.model.specs.Ranges.{all}
 use Rattle.model.specs.declared.Message.{Message}
 use Rattle.decisions.specs.declared.sending.Send.{Send}
-use Rattle.decisions.specs.Sending.{is_taken, item_of, items_of, lacking}
+use Rattle.decisions.specs.Sending.{is_taken, count_of, item_of, items_of, lacking}
 use Rattle.machine.specs.Slots.{lowest, lowest_from, FreeFrom, Ready}
 
 -- ---- the lowest free slot
@@ -114,9 +114,9 @@ all-sent s j c h = ap (items_from s j) (left-none j c h)
 all_left : (c : ℕ) → c - 0 ≡ c
 all_left c = omega arith
 
-none-sent : (s : Send) → items_from s 0 (s.count - 0) ≡ items_of s
+none-sent : (s : Send) → items_from s 0 (count_of s - 0) ≡ items_of s
 unfolding items_of
-none-sent s = ap (items_from s 0) (all_left s.count)
+none-sent s = ap (items_from s 0) (all_left (count_of s))
 
 first-takes : (m : Message) (ms : List Message) → all is_taken (m ∷ ms) ≡ true → Holds (is_taken m)
 unfolding all
@@ -148,31 +148,31 @@ plus a = omega arith
 -- what holds before message j is sent from place i on, of the table ys that was lent and the table ws as it stands
 pub record Sends (s : Send) (ys : List Message) (j i : ℕ) (ws : List Message) : Type 0 where
   pub passed : lowest ws ≡ lowest_from i ws
-  pub roomy : lacking (s.count - j) ws ≡ 0
-  pub taken : all is_taken (items_from s j (s.count - j)) ≡ true
-  pub leaves : post (items_from s j (s.count - j)) ws ≡ post (items_of s) ys
+  pub roomy : lacking (count_of s - j) ws ≡ 0
+  pub taken : all is_taken (items_from s j (count_of s - j)) ≡ true
+  pub leaves : post (items_from s j (count_of s - j)) ws ≡ post (items_of s) ys
 
 pub begin : (s : Send) (ys : List Message) → Ready s ys → Sends s ys 0 0 ys
 begin s ys h = record {
   passed = plus (lowest ys);
-  roomy = ap (λ (k : ℕ). lacking k ys) (all_left s.count) ∙ h.0;
+  roomy = ap (λ (k : ℕ). lacking k ys) (all_left (count_of s)) ∙ h.0;
   taken = ap (all is_taken) (none-sent s) ∙ h.1;
   leaves = ap (λ (ms : List Message). post ms ys) (none-sent s);
 }
 
 module _ {s : Send} {ys : List Message} {j i : ℕ} {ws : List Message} (h : Sends s ys j i ws) where
-  pub last : s.count ≤ j → ws ≡ post (items_of s) ys
-  last l = sym (ap (λ (ms : List Message). post ms ws) (all-sent s j s.count l) ∙ post-none ws) ∙ h.leaves
+  pub last : count_of s ≤ j → ws ≡ post (items_of s) ys
+  last l = sym (ap (λ (ms : List Message). post ms ws) (all-sent s j (count_of s) l) ∙ post-none ws) ∙ h.leaves
 
-  module _ (l : j < s.count) where
+  module _ (l : j < count_of s) where
     abbrev rest : List Message
-    rest = items_from s (j + 1) (s.count - (j + 1))
+    rest = items_from s (j + 1) (count_of s - (j + 1))
 
     taking : all is_taken (item_of s j ∷ rest) ≡ true
-    taking = ap (all is_taken) (sym (unrolled s j s.count l)) ∙ h.taken
+    taking = ap (all is_taken) (sym (unrolled s j (count_of s) l)) ∙ h.taken
 
     free-there : 0 < free_slots ws
-    free-there = some-free j s.count (free_slots ws) l h.roomy
+    free-there = some-free j (count_of s) (free_slots ws) l h.roomy
 
     pub free : FreeFrom i ws
     free = subst (λ (k : ℕ). k < length ws) h.passed (lowest-inside ws free-there)
@@ -180,9 +180,9 @@ module _ {s : Send} {ys : List Message} {j i : ℕ} {ws : List Message} (h : Sen
     lower : Sends s ys (j + 1) (lowest ws + 1) (set ws (lowest ws) (item_of s j))
     lower = record {
       passed = passed_on ws (item_of s j) (first-takes (item_of s j) rest taking) (lowest-inside ws free-there);
-      roomy = still-room j s.count (free_slots ws) (free_slots (set ws (lowest ws) (item_of s j))) l (one_fewer ws (item_of s j) (first-takes (item_of s j) rest taking) free-there) h.roomy;
+      roomy = still-room j (count_of s) (free_slots ws) (free_slots (set ws (lowest ws) (item_of s j))) l (one_fewer ws (item_of s j) (first-takes (item_of s j) rest taking) free-there) h.roomy;
       taken = others-take (item_of s j) rest taking;
-      leaves = sym (ap (λ (ms : List Message). post ms ws) (unrolled s j s.count l) ∙ post-on (item_of s j) rest ws) ∙ h.leaves;
+      leaves = sym (ap (λ (ms : List Message). post ms ws) (unrolled s j (count_of s) l) ∙ post-on (item_of s j) rest ws) ∙ h.leaves;
     }
 
     pub next : Sends s ys (j + 1) (lowest_from i ws + 1) (set ws (lowest_from i ws) (item_of s j))

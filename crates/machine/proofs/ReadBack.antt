@@ -8,31 +8,32 @@ use lib.Seq.{drop-drop}
 use borrow.Author.Tests.{ne_eqb, lt-ltb, le-ltb}
 use Rattle.model.proofs.Lists.{All, none, also}
 use Rattle.model.specs.Table.{from}
-use Rattle.model.specs.declared.Answer.{Answer}
-use Rattle.model.specs.declared.Answer.TheVariants.{Ok, Learnt, Decided, Refused}
+use Rattle.model.specs.declared.Answer.TheVariants.{Done, Learnt, Decided}
+use Rattle.model.specs.Step.{Answered}
+use Rattle.std.specs.Prelude.{Ok, Err}
 use Rattle.machine.specs.Log.{per_answer, said_no, said_set, said_numbers, read_answer_of, read_numbers, said, answer_at, answers_in}
 
 -- an answer that a log can say: a party below 256, a refusal from 1 to 255
-abbrev pub Small : Answer → Type 0
-Small Ok = Unit {0}
-Small (Learnt l v) = l.0 < 256
-Small (Decided p v) = p.0 < 256
-Small (Refused n) = (1 ≤ n) × (n < 256)
+abbrev pub Small : Answered → Type 0
+Small (Ok Done) = Unit {0}
+Small (Ok (Learnt l v)) = l.0 < 256
+Small (Ok (Decided p v)) = p.0 < 256
+Small (Err n) = (1 ≤ n) × (n < 256)
 
 -- one answer
-answer_back : (w : Answer) → Small w → read_numbers (said_numbers w) ≡ w
+answer_back : (w : Answered) → Small w → read_numbers (said_numbers w) ≡ w
 unfolding read_answer_of said_no said_set
-answer_back Ok s = refl
-answer_back (Learnt l v) s =
+answer_back (Ok Done) s = refl
+answer_back (Ok (Learnt l v)) s =
     let m : (256 + l.0) % 256 ≡ l.0 = omega arith in
     rw (ne_eqb (256 + l.0) 0 (omega arith), le-ltb (256 + l.0) 256 (omega arith), lt-ltb (256 + l.0) 512 (omega arith), m)
-answer_back (Decided p v) s =
+answer_back (Ok (Decided p v)) s =
     let m : (512 + p.0) % 256 ≡ p.0 = omega arith in
     rw (ne_eqb (512 + p.0) 0 (omega arith), le-ltb (512 + p.0) 256 (omega arith), le-ltb (512 + p.0) 512 (omega arith), m)
-answer_back (Refused n) s = rw (ne_eqb n 0 (omega arith), lt-ltb n 256 s.1)
+answer_back (Err n) s = rw (ne_eqb n 0 (omega arith), lt-ltb n 256 s.1)
 
 -- the answers from k on, where the log says them there
-back_from : (log : List ℕ) (k : ℕ) (rest : List ℕ) {ws : List Answer} → All Small ws → drop (per_answer * k) log ≡ said ws ++ rest → map (answer_at log) (from k (length ws)) ≡ ws
+back_from : (log : List ℕ) (k : ℕ) (rest : List ℕ) {ws : List Answered} → All Small ws → drop (per_answer * k) log ≡ said ws ++ rest → map (answer_at log) (from k (length ws)) ≡ ws
 unfolding from said
 back_from log k rest none e = refl
 back_from log k rest (also {x = w} {xs = ws} s ss) e =
@@ -41,5 +42,5 @@ back_from log k rest (also {x = w} {xs = ws} s ss) e =
     let r : drop (per_answer * suc k) log ≡ said ws ++ rest = rw (← q, ← drop-drop per_answer (per_answer * k) log) (ap (drop per_answer) e) in
     rw (first, back_from log (suc k) rest ss r)
 
-pub read_back : (ws : List Answer) (rest : List ℕ) → All Small ws → answers_in (said ws ++ rest) (length ws) ≡ ws
+pub read_back : (ws : List Answered) (rest : List ℕ) → All Small ws → answers_in (said ws ++ rest) (length ws) ≡ ws
 read_back ws rest s = back_from (said ws ++ rest) 0 rest s refl

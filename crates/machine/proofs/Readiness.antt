@@ -1,5 +1,5 @@
 -- Laws of a step: the records that it finds are there, and where the room that it asks for is found, what is decided can be sent.
-use mathlib.Core.Path.{◌≡◌, refl, sym, ◌∙◌, ap}
+use mathlib.Core.Path.{◌≡◌, refl, sym, ◌∙◌, ap, subst}
 use Prim.Native.Nat.{ℕ, zero, suc, ◌-◌, ◌<◌, ◌≤◌}
 use native.Mathlib.Nat.{not-suc-le-zero, le_of_suc-le-suc}
 use native.Mathlib.Omega.{arith}
@@ -7,6 +7,7 @@ use mathlib.Core.Bool.{Bool, true, false, not}
 use mathlib.Core.List.{List, [], ◌∷◌}
 use lib.Dec.{T as Holds, eqb, ltb, eqb→eq, ltb→lt}
 use lib.ListN.{length, get_or, set}
+use Rattle.std.proofs.lemmas.List.{get_or_default}
 use Rattle.std.specs.Prelude.{if◌then◌else◌}
 use Rattle.sizes.specs.declared.Sizes.{Sizes}
 use Rattle.model.specs.Records.{free_slot}
@@ -17,16 +18,15 @@ use Rattle.model.specs.declared.Acceptor.{Acceptor}
 use Rattle.model.specs.declared.Learner.{Learner}
 use Rattle.model.specs.declared.Message.{Message}
 use Rattle.model.specs.declared.Event.{Event}
-use Rattle.decisions.specs.declared.decide.Change.{Change}
-use Rattle.decisions.specs.Sending.{is_taken, lacking}
+use Rattle.decisions.specs.Change.{Changes}
+use Rattle.decisions.specs.Sending.{is_taken, count_of, lacking}
 use Rattle.decisions.specs.Change.{unchanged, change_of, slot_after}
 use Rattle.decisions.specs.Refusals.{test_no}
 use Rattle.sizes.proofs.SizeLaws.{bounds}
 use Rattle.decisions.proofs.Sendable.{Sendable, silent, sendable}
-use Rattle.decisions.specs.declared.arms.Decision.{Decision}
 use Rattle.machine.specs.Slots.{Ready}
 use Rattle.machine.specs.Stepping.{index_in, Fits}
-use Rattle.decisions.specs.Arms.{need_of, decide_of, refused_of, finish_of}
+use Rattle.decisions.specs.Arms.{Decision, need_of, decide_of, refused_of, finish_of}
 
 -- ---- the records that an event finds are there
 
@@ -37,6 +37,17 @@ within_by false i n k h e l = omega arith
 pub within_in : (i n k : ℕ) → n ≤ k → 1 ≤ n → index_in i n < k
 unfolding index_in
 within_in i n k e l = within_by (ltb i n) i n k (ltb→lt i n) e l
+
+-- the record that is read is that of the party's number
+module _ {B : Type 0} (l : List B) (p n : ℕ) (many : n ≤ length l) (some : 1 ≤ n) {p' r : ℕ} (party : p' ≡ p) (index : r ≡ index_in p' n) where
+  pub index-is : r ≡ index_in p n
+  index-is = index ∙ ap (λ (k : ℕ). index_in k n) party
+
+  pub index-there : r < length l
+  index-there = subst (λ (k : ℕ). k < length l) (sym index-is) (within_in p n (length l) many some)
+
+  pub found : (d₀ d : B) → get_or l r d₀ ≡ get_or l (index_in p n) d
+  found d₀ d = get_or_default l r d₀ d index-there ∙ ap (λ (k : ℕ). get_or l k d) index-is
 
 module _ (z : Sizes) (ps : List Proposer) (acs : List Acceptor) (ls : List Learner) (t : List Message) (fit : Fits z ps acs ls t) where
   pub proposer-there : (i : ℕ) → index_in i z.proposers < length ps
@@ -83,7 +94,7 @@ room_by false c k t i tk h = ap (lacking c) (same free_slot t k) ∙ h
 
 -- ---- what is decided can be sent
 
-abbrev pub After : (t : List Message) (k : ℕ) → Change → Type 0
+abbrev pub After : (t : List Message) (k : ℕ) → Changes → Type 0
 After t k d = Ready d.send (set t k (slot_after d.frees (get_or t k free_slot)))
 
 none-lacking : (f : ℕ) → 0 - f ≡ 0
@@ -92,9 +103,9 @@ none-lacking f = omega arith
 unchanged-ready : (t : List Message) (k : ℕ) (q : Proposer) (c : Acceptor) → After t k (unchanged q c)
 unchanged-ready t k q c = (none-lacking (free_slots (set t k (slot_after false (get_or t k free_slot)))), silent)
 
-change-ready : (t : List Message) (k : ℕ) (d : Change) → k < length t → Sendable (get_or t k free_slot) d → lacking (if d.frees then d.send.count - 1 else d.send.count) t ≡ 0 → After t k d
+change-ready : (t : List Message) (k : ℕ) (d : Changes) → k < length t → Sendable (get_or t k free_slot) d → lacking (if d.frees then (count_of d.send) - 1 else (count_of d.send)) t ≡ 0 → After t k d
 unfolding slot_after
-change-ready t k d i s h = (room_by d.frees d.send.count k t i s.frees-taken h, s.takes)
+change-ready t k d i s h = (room_by d.frees (count_of d.send) k t i s.frees-taken h, s.takes)
 
 -- the three ways that a decision is finished
 finish-by : (a b : Bool) (t : List Message) (k : ℕ) (d : Decision) (q : Proposer) (c : Acceptor) → (Holds a → Holds b → After t k d.change) → After t k (if a then (if b then d else refused_of 8 q c) else refused_of d.no q c).change
@@ -109,12 +120,12 @@ need-none n frees c e = ap (λ (k : ℕ). if eqb k 0 then (if frees then c - 1 e
 decided-ready : (z : Sizes) (e : Event) (t : List Message) (k : ℕ) (q : Proposer) (c : Acceptor) (l : Learner) → k < length t → (decide_of z e (get_or t k free_slot) q c l).no ≡ 0 → lacking (decide_of z e (get_or t k free_slot) q c l).need t ≡ 0 → After t k (decide_of z e (get_or t k free_slot) q c l).change
 unfolding decide_of
 decided-ready z e t k q c l i o h =
-    change-ready t k d i (sendable z e.a e.b m q c c.alive l.alive (code_of e.code) o) (ap (λ (n : ℕ). lacking n t) (sym (need-none (test_no z e.a e.b m q c.alive l.alive (code_of e.code)) d.frees d.send.count o)) ∙ h)
+    change-ready t k d i (sendable z e.a e.b m q c c.alive l.alive (code_of e.code) o) (ap (λ (n : ℕ). lacking n t) (sym (need-none (test_no z e.a e.b m q c.alive l.alive (code_of e.code)) d.frees (count_of d.send) o)) ∙ h)
   where
     m : Message
     m = get_or t k free_slot
 
-    d : Change
+    d : Changes
     d = change_of z e.a e.b m q c (code_of e.code)
 
 pub ready-after : (z : Sizes) (e : Event) (t : List Message) (k : ℕ) (q : Proposer) (c : Acceptor) (l : Learner) → k < length t

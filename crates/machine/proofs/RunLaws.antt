@@ -16,20 +16,19 @@ use Rattle.model.specs.Records.{State}
 use Rattle.model.specs.Table.{from}
 use Rattle.choice.specs.Tests.{◌unless◌, ◌⨾◌, ok}
 use Rattle.model.specs.Ranges.{records_in_range}
-use Rattle.model.specs.Step.{step, run, answers}
+use Rattle.model.specs.Step.{Answered, step, run, answers}
 use Rattle.model.specs.declared.Proposer.{Proposer}
 use Rattle.model.specs.declared.Acceptor.{Acceptor}
 use Rattle.model.specs.declared.Learner.{Learner}
 use Rattle.model.specs.declared.Message.{Message}
 use Rattle.model.specs.declared.Event.{Event}
-use Rattle.model.specs.declared.Answer.{Answer}
 use Rattle.choice.proofs.Tests.{and_l, and_r}
 use Rattle.model.proofs.InRange.{test-ranges, sizes-in-range, step-in-range}
 use Rattle.machine.specs.Stepping.{Fits, step_of}
-use Rattle.machine.specs.Running.{Ran, onward, ran_to, driven, Drives, times_from, times_of, Repeats}
+use Rattle.machine.specs.Running.{Ran, onward, ran_to, driven, Drives}
 use Rattle.machine.specs.Log.{per_answer, said_numbers, said, logged, noted}
 use Rattle.machine.specs.Calls.{event_of, events_in, lent, has_numbers, run_no, after_run, log_after_run}
-use Rattle.machine.proofs.StepLaws.{Agrees, step-agrees, step-refused}
+use Rattle.machine.proofs.StepLaws.{Agrees, step-agrees}
 
 -- ---- one event more
 
@@ -55,7 +54,7 @@ module _ (z : Sizes) where
   answers_next : (s : State) (es : List Event) (e : Event) → answers z s (es ++ (e ∷ [])) ≡ answers z s es ++ ((step z (run z s es) e).answer ∷ [])
   unfolding run answers
   answers_next s [] e = refl
-  answers_next s (x ∷ es) e = ap (λ (ws : List Answer). (step z s x).answer ∷ ws) (answers_next (step z s x).state es e)
+  answers_next s (x ∷ es) e = ap (λ (ws : List Answered). (step z s x).answer ∷ ws) (answers_next (step z s x).state es e)
 
   pub length-answers : (s : State) (es : List Event) → length (answers z s es) ≡ length es
   unfolding answers
@@ -70,12 +69,12 @@ module _ (z : Sizes) where
 
 -- ---- one answer more in the log
 
-said-next : (ws : List Answer) (w : Answer) → said (ws ++ (w ∷ [])) ≡ said ws ++ said_numbers w
+said-next : (ws : List Answered) (w : Answered) → said (ws ++ (w ∷ [])) ≡ said ws ++ said_numbers w
 unfolding said
 said-next [] w = refl
 said-next (x ∷ ws) w = ap (λ (l : List ℕ). said_numbers x ++ l) (said-next ws w)
 
-length-said : (ws : List Answer) → length (said ws) ≡ per_answer * length ws
+length-said : (ws : List Answered) → length (said ws) ≡ per_answer * length ws
 unfolding said
 length-said [] = refl
 length-said (w ∷ ws) = omega (arith, length-said ws)
@@ -84,10 +83,10 @@ length-said (w ∷ ws) = omega (arith, length-said ws)
 stored : (p q ns : List ℕ) → length ns ≤ length q → sets (p ++ q) (length p) ns ≡ p ++ ns ++ drop (length ns) q
 stored p q ns h = sets-eq ns (p ++ q) (length p) (rw (length-append p q) (omega arith)) ∙ rw (take-append_seam p q, drop-append-add p q (length ns))
 
-one_more : (ws : List Answer) (w : Answer) → per_answer * length ws + per_answer ≡ per_answer * length (ws ++ (w ∷ []))
+one_more : (ws : List Answered) (w : Answered) → per_answer * length ws + per_answer ≡ per_answer * length (ws ++ (w ∷ []))
 one_more ws w = omega (arith, length-append ws (w ∷ []))
 
-noted-next : (ws : List Answer) (w : Answer) (log : List ℕ) (n : ℕ) → length ws ≡ n → per_answer * suc n ≤ length log → noted (logged ws log) n w ≡ logged (ws ++ (w ∷ [])) log
+noted-next : (ws : List Answered) (w : Answered) (log : List ℕ) (n : ℕ) → length ws ≡ n → per_answer * suc n ≤ length log → noted (logged ws log) n w ≡ logged (ws ++ (w ∷ [])) log
 noted-next ws w log n e h =
     let rest = drop (per_answer * length ws) log in
     ap (λ (k : ℕ). sets (logged ws log) k (said_numbers w)) (ap (λ (k : ℕ). per_answer * k) (sym e) ∙ sym (length-said ws))
@@ -133,9 +132,9 @@ module _ (z : Sizes) where
         learners = a.learners ∙ ap (λ (u : State). u.learners) next;
         slots = a.slots ∙ ap (λ (u : State). u.slots) next;
         log =
-            ap₂ (λ (l : List ℕ) (w : Answer). noted l n w) x.log a.answer
+            ap₂ (λ (l : List ℕ) (w : Answered). noted l n w) x.log a.answer
             ∙ noted-next (answers z s es) (step z (run z s es) e).answer log n (length-answers z s es ∙ many) room
-            ∙ ap (λ (ws : List Answer). logged ws log) (sym (answers_next z s es e));
+            ∙ ap (λ (ws : List Answered). logged ws log) (sym (answers_next z s es e));
       }
 
   module _ (ps : List Proposer) (acs : List Acceptor) (ls : List Learner) (t : List Message) (ns log : List ℕ) where
@@ -148,7 +147,7 @@ module _ (z : Sizes) where
         subst (λ (es : List Event). Ends (driven z ps acs ls t ns log (suc n)) (run z (lent ps acs ls t) es) (logged (answers z (lent ps acs ls t) es) log)) (sym (events-next ns n))
         (onward-ends (lent ps acs ls t) (events_in ns n) (event_of ns n) log n (driven z ps acs ls t ns log n) h (length_from (event_of ns) 0 n) room (driven-ends h n (omega arith)))
 
--- ---- the call of a run: all n events where nothing is refused, and otherwise none
+-- ---- the call of a run: all n events where nothing is refused
 
 -- records in range fit
 pub in-range-fits : (z : Sizes) (ps : List Proposer) (acs : List Acceptor) (ls : List Learner) (t : List Message) → records_in_range z (lent ps acs ls t) ≡ true → Fits z ps acs ls t
@@ -160,48 +159,24 @@ in-range-fits z ps acs ls t h =
 pub numbers-there : (ns : List ℕ) (n : ℕ) (log : List ℕ) → has_numbers ns n log ≡ true → (3 * n ≤ length ns) × (per_answer * n ≤ length log)
 numbers-there ns n log h = search (and_l, and_r, leb-true)
 
-module _ (z : Sizes) (ps : List Proposer) (acs : List Acceptor) (ls : List Learner) (t : List Message) (ns : List ℕ) (n : ℕ) (log : List ℕ) where
-  run-drives-by : (u w v : Bool) → records_in_range z (lent ps acs ls t) ≡ u → has_numbers ns n log ≡ v
-      → Drives z ps acs ls t ns log (if eqb (1 unless u ⨾ 3 unless w ⨾ 8 unless v ⨾ ok) 0 then n else 0)
-  run-drives-by true true true h k some = (in-range-fits z ps acs ls t h, numbers-there ns n log k)
-  run-drives-by true true false h k some = absurd (not-suc-le-zero some)
-  run-drives-by true false v h k some = absurd (not-suc-le-zero some)
-  run-drives-by false w v h k some = absurd (not-suc-le-zero some)
+-- where nothing is refused, all that is asked for is there, and all n events are run
+abbrev pub tests : Bool → Bool → Bool → ℕ
+tests u w v = 1 unless u ⨾ 3 unless w ⨾ 8 unless v ⨾ ok
 
-  pub run-drives : Drives z ps acs ls t ns log (if eqb (run_no z (lent ps acs ls t) ns n log) 0 then n else 0)
-  run-drives = run-drives-by (records_in_range z (lent ps acs ls t)) (leb n most_events) (has_numbers ns n log) refl refl
+pub none-refused : (u w v : Bool) → tests u w v ≡ 0 → (u ≡ true) × (v ≡ true)
+none-refused true true true h = (refl, refl)
+none-refused true true false h = let bad : 8 ≤ 0 = omega (arith, h) in absurd (not-suc-le-zero bad)
+none-refused true false v h = let bad : 3 ≤ 0 = omega (arith, h) in absurd (not-suc-le-zero bad)
+none-refused false w v h = let bad : 1 ≤ 0 = omega (arith, h) in absurd (not-suc-le-zero bad)
 
-module _ (z : Sizes) (ps : List Proposer) (acs : List Acceptor) (ls : List Learner) (t : List Message) (ns : List ℕ) (n : ℕ) (log : List ℕ) where
-  run-ends-by : (u w v : Bool) → records_in_range z (lent ps acs ls t) ≡ u → has_numbers ns n log ≡ v
-      → Ends (driven z ps acs ls t ns log (if eqb (1 unless u ⨾ 3 unless w ⨾ 8 unless v ⨾ ok) 0 then n else 0))
-      (if eqb (1 unless u ⨾ 3 unless w ⨾ 8 unless v ⨾ ok) 0 then run z (lent ps acs ls t) (events_in ns n) else lent ps acs ls t)
-      (if eqb (1 unless u ⨾ 3 unless w ⨾ 8 unless v ⨾ ok) 0 then logged (answers z (lent ps acs ls t) (events_in ns n)) log else log)
-  unfolding ran_to
-  run-ends-by true true true h k = driven-ends z ps acs ls t ns log h n (numbers-there ns n log k).1
-  run-ends-by true true false h k = none-ends (driven z ps acs ls t ns log 0)
-  run-ends-by true false v h k = none-ends (driven z ps acs ls t ns log 0)
-  run-ends-by false w v h k = none-ends (driven z ps acs ls t ns log 0)
+module _ (z : Sizes) (ps : List Proposer) (acs : List Acceptor) (ls : List Learner) (t : List Message) (ns : List ℕ) (n : ℕ) (log : List ℕ) (h : run_no z (lent ps acs ls t) ns n log ≡ 0) where
+  passed : (records_in_range z (lent ps acs ls t) ≡ true) × (has_numbers ns n log ≡ true)
+  passed = none-refused (records_in_range z (lent ps acs ls t)) (leb n most_events) (has_numbers ns n log) h
 
-  pub run_ends : Ends (driven z ps acs ls t ns log (if eqb (run_no z (lent ps acs ls t) ns n log) 0 then n else 0)) (after_run z (lent ps acs ls t) ns n log) (log_after_run z (lent ps acs ls t) ns n log)
-  run_ends = run-ends-by (records_in_range z (lent ps acs ls t)) (leb n most_events) (has_numbers ns n log) refl refl
+  pub run-drives : Drives z ps acs ls t ns log n
+  run-drives = (in-range-fits z ps acs ls t passed.0, numbers-there ns n log passed.1)
 
--- ---- the call of a step: once where the records are in range, and otherwise a refusal with 1
-
-module _ (z : Sizes) (e : Event) (ps : List Proposer) (acs : List Acceptor) (ls : List Learner) (t : List Message) where
-  step-repeats-by : (u : Bool) → records_in_range z (lent ps acs ls t) ≡ u → Repeats z ps acs ls t (if eqb (1 unless u ⨾ ok) 0 then 1 else 0)
-  step-repeats-by true h some = in-range-fits z ps acs ls t h
-  step-repeats-by false h some = absurd (not-suc-le-zero some)
-
-  pub step-repeats : Repeats z ps acs ls t (if eqb (1 unless records_in_range z (lent ps acs ls t) ⨾ ok) 0 then 1 else 0)
-  step-repeats = step-repeats-by (records_in_range z (lent ps acs ls t)) refl
-  -- the first test refuses
-
-module _ (z : Sizes) (e : Event) (ps : List Proposer) (acs : List Acceptor) (ls : List Learner) (t : List Message) where
-  step-once-by : (u : Bool) → records_in_range z (lent ps acs ls t) ≡ u
-      → Agrees (times_of z e ps acs ls t (if eqb (1 unless u ⨾ ok) 0 then 1 else 0)) (step z (lent ps acs ls t) e)
-  unfolding times_from
-  step-once-by true h = step-agrees z (lent ps acs ls t) e h
-  step-once-by false h = subst (Agrees (times_of z e ps acs ls t 0)) (sym (step-refused z (lent ps acs ls t) e h)) (record { answer = refl; proposers = refl; acceptors = refl; learners = refl; slots = refl })
-
-  pub step-once : Agrees (times_of z e ps acs ls t (if eqb (1 unless records_in_range z (lent ps acs ls t) ⨾ ok) 0 then 1 else 0)) (step z (lent ps acs ls t) e)
-  step-once = step-once-by (records_in_range z (lent ps acs ls t)) refl
+  pub run_ends : Ends (driven z ps acs ls t ns log n) (after_run z (lent ps acs ls t) ns n log) (log_after_run z (lent ps acs ls t) ns n log)
+  run_ends =
+      subst (λ (r : ℕ). Ends (driven z ps acs ls t ns log n) (if eqb r 0 then run z (lent ps acs ls t) (events_in ns n) else lent ps acs ls t) (if eqb r 0 then logged (answers z (lent ps acs ls t) (events_in ns n)) log else log)) (sym h)
+      (driven-ends z ps acs ls t ns log passed.0 n (numbers-there ns n log passed.1).1)

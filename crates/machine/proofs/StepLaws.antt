@@ -1,5 +1,5 @@
 -- A step as the code does it is the model's, where the records are in range; where they are not, the model refuses with 1.
-use mathlib.Core.Path.{◌≡◌, refl, sym}
+use mathlib.Core.Path.{◌≡◌, refl, sym, ap}
 use mathlib.Core.Bool.{Bool, true, false}
 use mathlib.Core.List.{List}
 use Prim.Native.Nat.{ℕ, zero, suc, ◌-◌, ◌<◌, ◌≤◌}
@@ -7,7 +7,7 @@ use native.Mathlib.Omega.{arith}
 use lib.Dec.{T as Holds, eqb, leb, eqb-suc-zero}
 use lib.ListN.{length, get_or, set}
 use borrow.Author.Tests.{lt-ltb, leb-true, leb-false, eq-eqb, ne_eqb}
-use Rattle.std.specs.Prelude.{if◌then◌else◌}
+use Rattle.std.specs.Prelude.{if◌then◌else◌, Ok, Err}
 use Rattle.sizes.specs.declared.Sizes.{Sizes}
 use Rattle.model.specs.Records.{State, free_slot}
 use Rattle.choice.specs.Tests.{◌unless◌, ◌⨾◌, refusal, ok}
@@ -20,19 +20,17 @@ use Rattle.model.specs.declared.Acceptor.{Acceptor}
 use Rattle.model.specs.declared.Learner.{Learner}
 use Rattle.model.specs.declared.Message.{Message}
 use Rattle.model.specs.declared.Event.{Event}
-use Rattle.model.specs.declared.Answer.TheVariants.{Refused}
 use Rattle.model.proofs.Steps.{does, refusal-keeps}
 use Rattle.model.proofs.InRange.{test-ranges, sizes-in-range}
-use Rattle.decisions.specs.declared.decide.Change.{Change}
-use Rattle.decisions.specs.Sending.{is_taken, items_of, lacking}
+use Rattle.decisions.specs.Change.{Changes}
+use Rattle.decisions.specs.Sending.{is_taken, count_of, items_of, lacking}
 use Rattle.decisions.specs.Change.{change_of, learner_after, slot_after, answer_of}
 use Rattle.decisions.specs.Refusals.{test_no}
 use Rattle.decisions.proofs.Sendable.{sendable}
 use Rattle.sizes.proofs.SizeLaws.{bounds}
 use Rattle.decisions.proofs.Items.{items-silence, items-count}
-use Rattle.decisions.specs.declared.arms.Decision.{Decision}
 use Rattle.machine.specs.Stepping.{index_in, party_of, reply_of, Left, the_message, the_proposer, the_acceptor, the_learner, step_of}
-use Rattle.decisions.specs.Arms.{need_of, decide_of, refused_of, finish_of}
+use Rattle.decisions.specs.Arms.{Decision, need_of, decide_of, refused_of, finish_of}
 use Rattle.machine.proofs.Readiness.{within_in, same, freed, need-none}
 use Rattle.machine.proofs.EventLaws.{At, Does, Law, event-law}
 
@@ -117,24 +115,24 @@ module _ (z : Sizes) (s : State) (e : Event) where
     slots = post (items_of d.change.send) (set s.slots x (slot_after d.change.frees m));
   }
 
-  refused : (n : ℕ) → Agrees (left_by (refused_of (suc n) q c)) (record { answer = Refused (suc n); state = s })
+  refused : (n : ℕ) → Agrees (left_by (refused_of (suc n) q c)) (record { answer = Err (suc n); state = s })
   unfolding reply_of learner_after slot_after post
   refused n = rw (eqb-suc-zero n, items-silence) (search same)
 
-  abbrev Done : Change → Effect → Type 0
-  Done d f = Does z s i j k x d (answer_of z d.hears d.proposer.decided e.a m l (code_of e.code)) f
+  abbrev Did : Changes → Effect → Type 0
+  Did d f = Does z s i j k x d (answer_of z d.hears d.proposer.decided e.a m l (code_of e.code)) f
 
-  done : (d : Change) (need : ℕ) (f : Effect) → Done d f → Agrees (left_by (record { no = 0; need = need; change = d })) (record { answer = f.answer; state = sent f })
+  done : (d : Changes) (need : ℕ) (f : Effect) → Did d f → Agrees (left_by (record { no = 0; need = need; change = d })) (record { answer = Ok f.answer; state = sent f })
   unfolding reply_of
   done d need f h = record {
-    answer = h.answer;
+    answer = ap Ok h.answer;
     proposers = h.proposers;
     acceptors = h.acceptors;
     learners = h.learners;
     slots = rw (h.sends, h.slots);
   }
 
-  ended : (n : ℕ) (room : Bool) (d : Change) (need : ℕ) (f : Effect) → (n ≡ 0 → Done d f) → (n ≡ 0 → has_room f ≡ room)
+  ended : (n : ℕ) (room : Bool) (d : Changes) (need : ℕ) (f : Effect) → (n ≡ 0 → Did d f) → (n ≡ 0 → has_room f ≡ room)
       → Agrees (left_by (if eqb n 0 then (if room then record { no = n; need = need; change = d } else refused_of 8 q c) else refused_of n q c))
       (stepped (refusal n ⨾ 8 unless has_room f ⨾ ok) s f)
   unfolding stepped
@@ -148,27 +146,27 @@ module _ (z : Sizes) (s : State) (e : Event) where
   abbrev n : ℕ
   n = test_no z e.a e.b m q c.alive l.alive (code_of e.code)
 
-  abbrev d : Change
+  abbrev d : Changes
   d = change_of z e.a e.b m q c (code_of e.code)
 
   the_law : records_in_range z s ≡ true → Law z s i j k x (code_of e.code) e.a e.b
   the_law r =
       event-law z s i j k x e (code_of e.code) (sizes-in-range z s r) ((test-ranges z s r).slots x) (within-there e.a z.slots) (found z (party_of e m))
 
-  the-room : records_in_range z s ≡ true → n ≡ 0 → has_room (does z s e) ≡ eqb (lacking (need_of n d.frees d.send.count) s.slots) 0
+  the-room : records_in_range z s ≡ true → n ≡ 0 → has_room (does z s e) ≡ eqb (lacking (need_of n d.frees (count_of d.send)) s.slots) 0
   the-room r o =
       let many = (test-ranges z s r).many_slots in
       let there = within_in e.a z.slots (length s.slots) (omega arith) (omega (arith, (bounds z (sizes-in-range z s r)).some-slots)) in
       let taken = (sendable z e.a e.b m q c c.alive l.alive (code_of e.code) o).frees-taken in
-      rw (← ((the_law r).does o).sends, ← ((the_law r).does o).slots, items-count, need-none n d.frees d.send.count o)
-      (room_by s.slots x d.frees d.send.count there taken)
+      rw (← ((the_law r).does o).sends, ← ((the_law r).does o).slots, items-count, need-none n d.frees (count_of d.send) o)
+      (room_by s.slots x d.frees (count_of d.send) there taken)
 
   agrees-by : records_in_range z s ≡ true → Agrees (step_of z e s.proposers s.acceptors s.learners s.slots) (step z s e)
   unfolding finish_of decide_of step step_no
   agrees-by r = rw (r, (the_law r).refuses) (ended n _ d _ (does z s e) (the_law r).does (the-room r))
 
   -- records out of range
-  pub step-refused : records_in_range z s ≡ false → step z s e ≡ record { answer = Refused 1; state = s }
+  pub step-refused : records_in_range z s ≡ false → step z s e ≡ record { answer = Err 1; state = s }
   unfolding step_no
   step-refused r = refusal-keeps z s e 0 (rw r)
 

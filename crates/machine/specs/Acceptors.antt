@@ -1,6 +1,6 @@
 -- One acceptor's call: its tests in their order, its reply, and the record that it leaves.
 use Rattle.std.specs.Prelude.{ℕ, eqb}
-use Rattle.std.specs.Prelude.{if◌then◌else◌}
+use Rattle.std.specs.Prelude.{if◌then◌else◌, Result, Ok, Err}
 use Rattle.choice.specs.Tests.{◌unless◌, ◌⨾◌, ok}
 use Rattle.sets.specs.Scans.{fits}
 use Rattle.sets.specs.declared.scans.Scans.{Scans}
@@ -8,13 +8,13 @@ use Rattle.sizes.specs.Sizes.{scans_in_range}
 use Rattle.model.specs.Rules.{accepts, gaining, answering}
 use Rattle.model.specs.declared.Acceptor.{Acceptor}
 use Rattle.machine.specs.declared.acceptors.Reply.{Reply}
-use Rattle.machine.specs.declared.acceptors.Reply.TheVariants.{Accepted, Rejected, Refused}
+use Rattle.machine.specs.declared.acceptors.Reply.TheVariants.{Accepted, Rejected}
 
 -- document 01's number of a reply: 0, or the refusal's
-abbrev pub reply_no : Reply → ℕ
-reply_no (Accepted set) = 0
-reply_no (Rejected set) = 0
-reply_no (Refused n) = n
+abbrev pub reply_no : Result Reply ℕ → ℕ
+reply_no (Ok (Accepted set)) = 0
+reply_no (Ok (Rejected set)) = 0
+reply_no (Err n) = n
 
 -- 1 for S and the record, 3 for a set not within S, 5 it has crashed
 unfoldable pub answering_no : ℕ → Acceptor → Scans → ℕ
@@ -29,8 +29,8 @@ answering_no s q v =
 abbrev pub replying : Acceptor → Scans → Reply
 replying q v = if accepts q v then Accepted v else Rejected (gaining q v).accepted
 
-unfoldable pub reply_to : ℕ → Acceptor → Scans → Reply
-reply_to s q v = if eqb (answering_no s q v) 0 then replying q v else Refused (answering_no s q v)
+unfoldable pub reply_to : ℕ → Acceptor → Scans → Result Reply ℕ
+reply_to s q v = if eqb (answering_no s q v) 0 then Ok (replying q v) else Err (answering_no s q v)
 
 -- a refusal leaves the record
 unfoldable pub record_after : ℕ → Acceptor → Scans → Acceptor

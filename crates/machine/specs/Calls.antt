@@ -8,13 +8,12 @@ use Rattle.model.specs.Records.{State, fresh}
 use Rattle.choice.specs.Tests.{◌unless◌, ◌⨾◌, ok}
 use Rattle.model.specs.Table.{from}
 use Rattle.model.specs.Ranges.{lengths_in_range, records_in_range}
-use Rattle.model.specs.Step.{answer_no, step_no, step, run, answers}
+use Rattle.model.specs.Step.{Answered, answer_no, step_no, step, run, answers}
 use Rattle.model.specs.declared.Proposer.{Proposer}
 use Rattle.model.specs.declared.Acceptor.{Acceptor}
 use Rattle.model.specs.declared.Learner.{Learner}
 use Rattle.model.specs.declared.Message.{Message}
 use Rattle.model.specs.declared.Event.{Event}
-use Rattle.model.specs.declared.Answer.{Answer}
 use Rattle.machine.specs.declared.calls.Said.{Said}
 use Rattle.machine.specs.Log.{per_answer, said_no, said_set, logged}
 
@@ -32,7 +31,7 @@ after_fresh z s = if eqb (fresh_no z s) 0 then fresh z else s
 
 -- ---- an answer as two numbers
 
-abbrev pub said_of : Answer → Said
+abbrev pub said_of : Answered → Said
 said_of w = record { no = said_no w; set = said_set w }
 
 -- ---- a run of n events, three numbers each; their answers go into a log
@@ -89,7 +88,7 @@ abbrev pub FreshCall : Sizes → State → ℕ → State → Type 0
 FreshCall z s r t = (r ≡ fresh_no z s) × Leaves t (after_fresh z s)
 
 -- the answer is document 01's, and so is its number
-abbrev pub StepCall : Sizes → State → Event → Answer → State → Type 0
+abbrev pub StepCall : Sizes → State → Event → Answered → State → Type 0
 StepCall z s e r t =
     (r ≡ (step z s e).answer)
     × ((answer_no r ≡ step_no z s e) × Leaves t (step z s e).state)

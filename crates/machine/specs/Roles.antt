@@ -1,6 +1,5 @@
 -- A step by role: one event on a message that is there, of which an arm leaves out the lists that it does not touch; and a learner by one place.
-use Rattle.std.specs.Prelude.{◌≡◌, true, List, [], ℕ, ◌<◌, ◌≤◌, T as Holds, eqb, ltb, length, get_or, set}
-use Rattle.std.specs.Prelude.{if◌then◌else◌}
+use Rattle.std.specs.Prelude.{◌≡◌, true, List, ℕ, ◌<◌, ◌≤◌, T as Holds, length, get_or, set}
 use Rattle.sizes.specs.Sizes.{sizes_in_range}
 use Rattle.sizes.specs.declared.Sizes.{Sizes}
 use Rattle.model.specs.Records.{fresh_proposer, fresh_acceptor, fresh_learner, free_slot, heard_of}
@@ -10,13 +9,13 @@ use Rattle.model.specs.declared.Acceptor.{Acceptor}
 use Rattle.model.specs.declared.Learner.{Learner}
 use Rattle.model.specs.declared.Message.{Message}
 use Rattle.model.specs.declared.Event.{Event}
-use Rattle.model.specs.declared.Answer.{Answer}
+use Rattle.model.specs.Step.{Answered}
 use Rattle.decisions.specs.Sending.{items_of, lacking}
 use Rattle.decisions.specs.Change.{learner_after, slot_after}
-use Rattle.decisions.specs.declared.arms.Decision.{Decision}
 use Rattle.decisions.specs.declared.arms.Ear.{Ear}
 use Rattle.machine.specs.Stepping.{index_in, party_of, reply_of, Left}
-use Rattle.decisions.specs.Arms.{arm_of, decide_of, finish_of}
+use Rattle.decisions.specs.Arms.{arm_of, is_arm, Decision, decide_of, finish_of}
+use Rattle.decisions.specs.declared.arms.Arm.TheVariants as arm
 
 -- ---- one event on the message m of slot k
 
@@ -46,16 +45,16 @@ module _ (z : Sizes) (e : Event) (k : ℕ) (m : Message) (ps : List Proposer) (a
   }
 
 -- what an arm gives: the answer, its own records where it has any, and the slots
-abbrev pub GivesSlots : Left → Answer → List Message → Type 0
+abbrev pub GivesSlots : Left → Answered → List Message → Type 0
 GivesSlots l r t = (r ≡ l.answer) × (t ≡ l.slots)
 
-abbrev pub GivesProposers : Left → Answer → List Proposer → List Message → Type 0
+abbrev pub GivesProposers : Left → Answered → List Proposer → List Message → Type 0
 GivesProposers l r ps t = (r ≡ l.answer) × ((ps ≡ l.proposers) × (t ≡ l.slots))
 
-abbrev pub GivesAcceptors : Left → Answer → List Acceptor → List Message → Type 0
+abbrev pub GivesAcceptors : Left → Answered → List Acceptor → List Message → Type 0
 GivesAcceptors l r acs t = (r ≡ l.answer) × ((acs ≡ l.acceptors) × (t ≡ l.slots))
 
-abbrev pub GivesLearners : Left → Answer → List Learner → List Message → Type 0
+abbrev pub GivesLearners : Left → Answered → List Learner → List Message → Type 0
 GivesLearners l r ls t = (r ≡ l.answer) × ((ls ≡ l.learners) × (t ≡ l.slots))
 
 -- the message is that of its slot
@@ -65,25 +64,21 @@ Found z k m t = (sizes_in_range z ≡ true) × ((k < length t) × (m ≡ get_or 
 -- ---- what an arm asks for
 
 abbrev pub OfTable : Sizes → List Message → Event → ℕ → Message → Type 0
-OfTable z t e k m = Holds (eqb (arm_of e m) 0) × Found z k m t
+OfTable z t e k m = Holds (is_arm arm.Table (arm_of e m)) × Found z k m t
 
 abbrev pub OfProposer : Sizes → List Proposer → List Message → Event → ℕ → Message → Type 0
-OfProposer z ps t e k m = Holds (eqb (arm_of e m) 1) × ((z.proposers ≤ length ps) × Found z k m t)
+OfProposer z ps t e k m = Holds (is_arm arm.Proposer (arm_of e m)) × ((z.proposers ≤ length ps) × Found z k m t)
 
 abbrev pub OfAcceptor : Sizes → List Acceptor → List Message → Event → ℕ → Message → Type 0
-OfAcceptor z acs t e k m = Holds (eqb (arm_of e m) 2) × ((z.acceptors ≤ length acs) × Found z k m t)
+OfAcceptor z acs t e k m = Holds (is_arm arm.Acceptor (arm_of e m)) × ((z.acceptors ≤ length acs) × Found z k m t)
 
 abbrev pub OfLearner : Sizes → List Learner → List Message → Event → ℕ → Message → Type 0
-OfLearner z ls t e k m = Holds (eqb (arm_of e m) 3) × ((z.learners ≤ length ls) × Found z k m t)
+OfLearner z ls t e k m = Holds (is_arm arm.Learner (arm_of e m)) × ((z.learners ≤ length ls) × Found z k m t)
 
 abbrev pub OfTold : Sizes → List Proposer → List Message → Event → ℕ → Message → Type 0
-OfTold z ps t e k m = Holds (eqb (arm_of e m) 4) × ((z.proposers ≤ length ps) × Found z k m t)
+OfTold z ps t e k m = Holds (is_arm arm.Told (arm_of e m)) × ((z.proposers ≤ length ps) × Found z k m t)
 
 -- ---- a learner by one place
-
--- the place of a proposer; 0 of one past the places
-unfoldable pub place_of : ℕ → ℕ
-place_of p = if ltb p 8 then p else 0
 
 -- what a learner has of itself and of proposer p
 abbrev pub ear_of : Learner → ℕ → Ear

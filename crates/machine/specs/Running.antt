@@ -1,15 +1,14 @@
 -- A run over the events of a schedule, on the records that a caller lends, as the code does it: event by event, each answer into a log. Contracts of private functions.
-use Rattle.std.specs.Prelude.{◌≡◌, List, ℕ, zero, suc, ◌*◌, ◌<◌, ◌≤◌, length}
+use Rattle.std.specs.Prelude.{◌≡◌, List, ℕ, zero, suc, ◌*◌, ◌≤◌, length}
 use Rattle.sizes.specs.declared.Sizes.{Sizes}
 use Rattle.model.specs.declared.Proposer.{Proposer}
 use Rattle.model.specs.declared.Acceptor.{Acceptor}
 use Rattle.model.specs.declared.Learner.{Learner}
 use Rattle.model.specs.declared.Message.{Message}
 use Rattle.model.specs.declared.Event.{Event}
-use Rattle.model.specs.declared.Answer.TheVariants.{Refused}
 use Rattle.machine.specs.Log.{per_answer, noted}
 use Rattle.machine.specs.Calls.{event_of}
-use Rattle.machine.specs.Stepping.{Left, step_of, Fits}
+use Rattle.machine.specs.Stepping.{step_of, Fits}
 
 -- ---- the run
 
@@ -37,29 +36,12 @@ ran_to z ns r (suc k) = onward z (event_of ns k) k (ran_to z ns r k)
 abbrev pub driven : Sizes → List Proposer → List Acceptor → List Learner → List Message → List ℕ → List ℕ → ℕ → Ran
 driven z ps acs ls t ns log n = ran_to z ns (record { proposers = ps; acceptors = acs; learners = ls; slots = t; log = log }) n
 
--- where there are events to run, the records fit, and there are numbers and room for all of them
+-- the records fit, and there are numbers and room for all the events
 abbrev pub Drives : Sizes → List Proposer → List Acceptor → List Learner → List Message → List ℕ → List ℕ → ℕ → Type 0
-Drives z ps acs ls t ns log n = 0 < n → Fits z ps acs ls t × ((3 * n ≤ length ns) × (per_answer * n ≤ length log))
+Drives z ps acs ls t ns log n = Fits z ps acs ls t × ((3 * n ≤ length ns) × (per_answer * n ≤ length log))
 
 -- what is left is that of a run
 abbrev pub Drove : Ran → List Proposer → List Acceptor → List Learner → List Message → List ℕ → Type 0
 Drove r ps acs ls t log =
     (ps ≡ r.proposers)
     × ((acs ≡ r.acceptors) × ((ls ≡ r.learners) × ((t ≡ r.slots) × (log ≡ r.log))))
-
--- ---- one event, done n times
-
--- nothing is done, which is a refusal with 1
-abbrev pub untouched : List Proposer → List Acceptor → List Learner → List Message → Left
-untouched ps acs ls t = record { answer = Refused 1; proposers = ps; acceptors = acs; learners = ls; slots = t }
-
-unfoldable pub times_from : Sizes → Event → Left → ℕ → Left
-times_from z e l zero = l
-times_from z e l (suc k) = step_of z e (times_from z e l k).proposers (times_from z e l k).acceptors (times_from z e l k).learners (times_from z e l k).slots
-
-abbrev pub times_of : Sizes → Event → List Proposer → List Acceptor → List Learner → List Message → ℕ → Left
-times_of z e ps acs ls t n = times_from z e (untouched ps acs ls t) n
-
--- where it is done at all, the records fit
-abbrev pub Repeats : Sizes → List Proposer → List Acceptor → List Learner → List Message → ℕ → Type 0
-Repeats z ps acs ls t n = 0 < n → Fits z ps acs ls t

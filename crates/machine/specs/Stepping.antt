@@ -1,22 +1,22 @@
 -- One event on the records that a caller lends, as the code does it: fetch, decide, write back. Contracts of private functions.
-use Rattle.std.specs.Prelude.{◌≡◌, true, List, ℕ, ◌≤◌, eqb, ltb, length, get_or, set}
+use Rattle.std.specs.Prelude.{◌≡◌, true, List, ℕ, ◌≤◌, ltb, length, get_or, set}
 use Rattle.std.specs.Prelude.{if◌then◌else◌}
 use Rattle.sizes.specs.Sizes.{sizes_in_range}
 use Rattle.sizes.specs.declared.Sizes.{Sizes}
 use Rattle.model.specs.Records.{fresh_proposer, fresh_acceptor, fresh_learner, free_slot}
 use Rattle.model.specs.Table.{post}
-use Rattle.model.specs.Events.{Code, receive, deliver, drop, duplicate, propose, refine, decide, crash, no_code, code_of}
+use Rattle.model.specs.Events.{code_of}
+use Rattle.model.specs.declared.Code.{Code}
+use Rattle.model.specs.declared.Code.TheVariants.{Receive as receive, Deliver as deliver, Drop as drop, Duplicate as duplicate, Propose as propose, Refine as refine, Decide as decide, Crash as crash, NoCode as no_code}
 use Rattle.model.specs.declared.Proposer.{Proposer}
 use Rattle.model.specs.declared.Acceptor.{Acceptor}
 use Rattle.model.specs.declared.Learner.{Learner}
 use Rattle.model.specs.declared.Message.{Message}
 use Rattle.model.specs.declared.Event.{Event}
-use Rattle.model.specs.declared.Answer.{Answer}
-use Rattle.model.specs.declared.Answer.TheVariants.{Refused}
+use Rattle.model.specs.Step.{Answered}
 use Rattle.decisions.specs.Sending.{items_of, lacking}
 use Rattle.decisions.specs.Change.{learner_after, slot_after, answer_of}
-use Rattle.decisions.specs.Arms.{decide_of, finish_of}
-use Rattle.decisions.specs.declared.arms.Decision.{Decision}
+use Rattle.decisions.specs.Arms.{Decision, given, decide_of, finish_of}
 
 -- ---- which records an event finds
 
@@ -41,8 +41,8 @@ party_of e m = party_at e m (code_of e.code)
 
 -- ---- what is answered
 
-unfoldable pub reply_of : Sizes → Event → Decision → Message → Learner → Answer
-reply_of z e f m l = if eqb f.no 0 then answer_of z f.change.hears f.change.proposer.decided e.a m l (code_of e.code) else Refused f.no
+unfoldable pub reply_of : Sizes → Event → Decision → Message → Learner → Answered
+reply_of z e f m l = given f.no (answer_of z f.change.hears f.change.proposer.decided e.a m l (code_of e.code))
 
 -- ---- the whole
 
@@ -51,14 +51,14 @@ abbrev pub Fits : Sizes → List Proposer → List Acceptor → List Learner →
 Fits z ps acs ls t = (sizes_in_range z ≡ true) × ((z.proposers ≤ length ps) × ((z.acceptors ≤ length acs) × ((z.learners ≤ length ls) × (z.slots ≤ length t))))
 
 pub record Left : Type 0 where
-  pub answer : Answer
+  pub answer : Answered
   pub proposers : List Proposer
   pub acceptors : List Acceptor
   pub learners : List Learner
   pub slots : List Message
 
 -- what is answered and what is left
-abbrev pub Gives : Left → Answer → List Proposer → List Acceptor → List Learner → List Message → Type 0
+abbrev pub Gives : Left → Answered → List Proposer → List Acceptor → List Learner → List Message → Type 0
 Gives l r ps acs ls t =
     (r ≡ l.answer)
     × ((ps ≡ l.proposers) × ((acs ≡ l.acceptors) × ((ls ≡ l.learners) × (t ≡ l.slots))))

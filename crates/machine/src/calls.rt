@@ -1,97 +1,41 @@
 // The calls on records that a caller lends: fresh, one step, a run; and a whole run from fresh on records of its own. Each tests all that it is given.
 ghost use Rattle.std.specs.Prelude.{◌≡◌, ◌&&◌};
+ghost use Rattle.choice.specs.Refusals.{no, numbered};
 ghost use Rattle.sizes.specs.Sizes.{sizes_in_range};
+ghost use Rattle.model.specs.Ranges.{records_in_range};
 ghost use Rattle.machine.specs.Slots.{taken_slot};
-ghost use Rattle.machine.specs.Calls.{lent, said_of, FreshCall, StepCall, SaidCall, RunCall, WholeRunCall, enough_of};
-ghost use Rattle.machine.specs.Counting.{lengths_are, sound_of, turns_of, sized_no, events_no, whole_no};
+ghost use Rattle.machine.specs.Calls.{lent, FreshCall, StepCall, SaidCall, RunCall, WholeRunCall, enough_of};
+ghost use Rattle.machine.specs.Counting.{lengths_are, events_no};
 
 use crate::PER_ANSWER;
-use crate::lent::{
-    acceptors_in_range, fill_acceptors, fill_learners, fill_messages, fill_proposers,
-    learners_in_range, messages_in_range, proposers_in_range,
-};
-use crate::running::{drive, repeat, said_no, said_set};
-use choice::{both, first_no};
-use model::{Acceptor, Answer, Event, Learner, Message, Proposer};
-use sets::scans::Scans;
-use sets::{AcceptorId, ProposerId};
+use crate::lent::{all_in_range, free_first};
+use crate::running::{drive, said_of};
+use crate::step::step;
+use choice::refusals::{Refusal, refuse_unless};
+use model::records::Record;
+use model::{Acceptor, Answer, Event, Kind, Learner, Message, Proposer};
 use sizes::Sizes;
 
 // Sizes are in range, and there are as many records and slots as they say.
 fn sized(z: Sizes, p: usize, a: usize, l: usize, m: usize) -> bool
     ensures { result ≡ (sizes_in_range z && lengths_are z p a l m) }
 {
-    let parties = both(
-        both(p == z.proposers as usize, a == z.acceptors as usize),
-        l == z.learners as usize,
-    );
-    both(z.in_range(), both(parties, m == z.slots as usize))
+    z.in_range()
+        & ((p == z.proposers as usize)
+            & (a == z.acceptors as usize)
+            & (l == z.learners as usize)
+            & (m == z.slots as usize))
 }
 
-fn fresh_no(z: Sizes, p: usize, a: usize, l: usize, m: usize) -> u8
-    ensures { result ≡ sized_no z p a l m }
+// The sizes, how many records and slots there are, and what they hold, are in range.
+fn is_sound(z: Sizes, ps: &[Proposer], acs: &[Acceptor], ls: &[Learner], t: &[Message]) -> bool
+    ensures { result ≡ records_in_range z (lent ps.now acs.now ls.now t.now) }
 {
-    if sized(z, p, a, l, m) { 0 } else { 1 }
-}
-
-// 1 where the sizes, how many records and slots there are, or what they hold, are out of range.
-fn sound_no(
-    z: Sizes,
-    ps: usize,
-    acs: usize,
-    ls: usize,
-    t: usize,
-    p: bool,
-    a: bool,
-    l: bool,
-    m: bool,
-) -> u8
-    ensures { result ≡ sound_of (sizes_in_range z && lengths_are z ps acs ls t) p a l m }
-{
-    let sized = sized(z, ps, acs, ls, t);
-    if both(both(both(both(sized, p), a), l), m) {
-        0
-    } else {
-        1
-    }
-}
-
-// Once where nothing is refused.
-fn once_if(refusal: u8) -> u8
-    ensures { result ≡ turns_of refusal 1 }
-{
-    if refusal == 0 { 1 } else { 0 }
-}
-
-// As many where nothing is refused, and otherwise none.
-fn count_if(refusal: u8, n: u16) -> usize
-    ensures { result ≡ turns_of refusal n }
-{
-    if refusal == 0 { n as usize } else { 0 }
-}
-
-fn proposers_if(refusal: u8, z: Sizes) -> usize
-    ensures { result ≡ turns_of refusal z.proposers }
-{
-    count_if(refusal, z.proposers)
-}
-
-fn acceptors_if(refusal: u8, z: Sizes) -> usize
-    ensures { result ≡ turns_of refusal z.acceptors }
-{
-    count_if(refusal, z.acceptors)
-}
-
-fn learners_if(refusal: u8, z: Sizes) -> usize
-    ensures { result ≡ turns_of refusal z.learners }
-{
-    count_if(refusal, z.learners)
-}
-
-fn slots_if(refusal: u8, z: Sizes) -> usize
-    ensures { result ≡ turns_of refusal z.slots }
-{
-    count_if(refusal, z.slots)
+    sized(z, ps.len(), acs.len(), ls.len(), t.len())
+        & all_in_range(ps, z)
+        & all_in_range(acs, z)
+        & all_in_range(ls, z)
+        & all_in_range(t, z)
 }
 
 // Every record fresh and every slot free, or 1 and all as it was.
@@ -101,20 +45,17 @@ pub fn machine_fresh(
     acs: &mut [Acceptor],
     ls: &mut [Learner],
     t: &mut [Message],
-) -> u8
-    ensures { FreshCall z (lent ps.old acs.old ls.old t.old) result
+) -> Result<(), Refusal>
+    ensures { FreshCall z (lent ps.old acs.old ls.old t.old) (no result)
         (lent ps.new acs.new ls.new t.new) }
 {
-    let refusal = fresh_no(z, ps.len(), acs.len(), ls.len(), t.len());
-    let p = proposers_if(refusal, z);
-    fill_proposers(ps, p);
-    let a = acceptors_if(refusal, z);
-    fill_acceptors(acs, a);
-    let l = learners_if(refusal, z);
-    fill_learners(ls, l);
-    let m = slots_if(refusal, z);
-    fill_messages(t, m);
-    refusal
+    let sized = sized(z, ps.len(), acs.len(), ls.len(), t.len());
+    refuse_unless(sized, Refusal::OutOfRange)?;
+    ps.fill(Proposer::fresh());
+    acs.fill(Acceptor::fresh());
+    ls.fill(Learner::fresh());
+    t.fill(Message::fresh());
+    Ok(())
 }
 
 // One event, where the sizes, the lengths and all records are in range; otherwise a refusal with 1 and all as it was.
@@ -125,33 +66,21 @@ pub fn single_step(
     ls: &mut [Learner],
     t: &mut [Message],
     e: Event,
-) -> Answer
-    ensures { StepCall z (lent ps.old acs.old ls.old t.old) e result
+) -> Result<Answer, Refusal>
+    ensures { StepCall z (lent ps.old acs.old ls.old t.old) e (numbered result)
         (lent ps.new acs.new ls.new t.new) }
 {
-    let p = proposers_in_range(ps, z);
-    let a = acceptors_in_range(acs, z);
-    let l = learners_in_range(ls, z);
-    let m = messages_in_range(t, z);
-    let refusal = sound_no(z, ps.len(), acs.len(), ls.len(), t.len(), p, a, l, m);
-    let n = once_if(refusal);
-    repeat(z, ps, acs, ls, t, e, n)
+    let sound = is_sound(z, ps, acs, ls, t);
+    refuse_unless(sound, Refusal::OutOfRange)?;
+    step(z, ps, acs, ls, t, e)
 }
 
-// An answer as the two numbers that a log has of it: 0 for ok, a refusal's number, 256 and the learner, 512 and the proposer; and the set.
+// An answer as the two numbers that a log, and so C, has of it: 0 for ok, a refusal's number, 256 and the learner, 512 and the proposer; and the set.
 #[repr(C)]
-#[derive(Clone, Copy)]
+#[derive(Clone, Copy, Debug, PartialEq, Eq, Hash)]
 pub struct Said {
     pub no: u64,
     pub set: u64,
-}
-
-fn said_of(answer: Answer) -> Said
-    ensures { result ≡ said_of answer }
-{
-    let no = said_no(answer);
-    let set = said_set(answer);
-    Said { no, set }
 }
 
 // One event as above, its answer as two numbers.
@@ -175,18 +104,15 @@ fn enough(numbers: usize, room: usize, n: u16) -> bool
     ensures { result ≡ enough_of numbers room n }
 {
     let n = n as usize;
-    both(3 * n <= numbers, PER_ANSWER * n <= room)
+    (3 * n <= numbers) & (PER_ANSWER * n <= room)
 }
 
 // 3 for more than 4,096 events, and 8 where there is not enough for them.
-fn events_no(numbers: usize, room: usize, n: u16) -> u8
-    ensures { result ≡ events_no numbers room n }
+fn check_events(numbers: usize, room: usize, n: u16) -> Result<(), Refusal>
+    ensures { no result ≡ events_no numbers room n }
 {
-    let enough = enough(numbers, room, n);
-    if 4096 < n {
-        return 3;
-    }
-    if enough { 0 } else { 8 }
+    refuse_unless(n <= 4096, Refusal::NotThere)?;
+    refuse_unless(enough(numbers, room, n), Refusal::NoRoom)
 }
 
 // The first `n` events of a schedule's numbers, and their answers into the log; or a refusal and all as it was.
@@ -199,28 +125,15 @@ pub fn machine_run(
     events: &[u64],
     log: &mut [u64],
     n: u16,
-) -> u8
+) -> Result<(), Refusal>
     ensures { RunCall z (lent ps.old acs.old ls.old t.old)
-        events.now n log.old result
+        events.now n log.old (no result)
         (lent ps.new acs.new ls.new t.new) log.new }
 {
-    let p = proposers_in_range(ps, z);
-    let a = acceptors_in_range(acs, z);
-    let l = learners_in_range(ls, z);
-    let m = messages_in_range(t, z);
-    let sound = sound_no(z, ps.len(), acs.len(), ls.len(), t.len(), p, a, l, m);
-    let counted = events_no(events.len(), log.len(), n);
-    let refusal = first_no(sound, counted);
-    let k = count_if(refusal, n);
-    drive(z, ps, acs, ls, t, events, log, k);
-    refusal
-}
-
-// 1 where a size is out of range, and then the refusal of the events.
-fn whole_run_no(z: Sizes, counted: u8) -> u8
-    ensures { result ≡ whole_no (sizes_in_range z) counted }
-{
-    if z.in_range() { counted } else { 1 }
+    refuse_unless(is_sound(z, ps, acs, ls, t), Refusal::OutOfRange)?;
+    check_events(events.len(), log.len(), n)?;
+    drive(z, ps, acs, ls, t, events, log, n as usize);
+    Ok(())
 }
 
 // A slot that is not free.
@@ -228,32 +141,24 @@ fn taken_slot() -> Message
     ensures { result ≡ taken_slot }
 {
     Message {
-        kind: 1,
-        addressee: 0,
-        proposer: ProposerId(0),
-        acceptor: AcceptorId(0),
-        number: 0,
-        set: Scans::empty(),
+        kind: Kind::Internal as u8,
+        ..Message::fresh()
     }
 }
 
-// A run of `n` events from fresh, on records of its own, as many as any run has. Slots past the run's number are taken. The answers go into the log; a refusal leaves the log as it was.
-pub fn whole_run(z: Sizes, events: &[u64], log: &mut [u64], n: u16) -> u8
-    ensures { WholeRunCall z events.now n log.old result log.new }
+// A run of `n` events from fresh, on records of its own, as many as any run has: memory is fixed, with no heap. Slots past the run's number are taken. The answers go into the log; a refusal leaves the log as it was.
+pub fn whole_run(z: Sizes, events: &[u64], log: &mut [u64], n: u16) -> Result<(), Refusal>
+    ensures { WholeRunCall z events.now n log.old (no result) log.new }
 {
-    let counted = events_no(events.len(), log.len(), n);
-    let refusal = whole_run_no(z, counted);
-    let turns = count_if(refusal, n);
-    let slots = slots_if(refusal, z);
-    let p = Proposer::fresh();
-    let mut ps = [p; 8];
-    let a = Acceptor::fresh();
-    let mut acs = [a; 7];
-    let l = Learner::fresh();
-    let mut ls = [l; 8];
-    let m = taken_slot();
-    let mut t = [m; 512];
-    fill_messages(&mut t, slots);
-    drive(z, &mut ps, &mut acs, &mut ls, &mut t, events, log, turns);
-    refusal
+    refuse_unless(z.in_range(), Refusal::OutOfRange)?;
+    check_events(events.len(), log.len(), n)?;
+    let mut ps = [Proposer::fresh(); 8];
+    let mut acs = [Acceptor::fresh(); 7];
+    let mut ls = [Learner::fresh(); 8];
+    let mut t = [taken_slot(); 512];
+    free_first(&mut t, z.slots as usize);
+    drive(
+        z, &mut ps, &mut acs, &mut ls, &mut t, events, log, n as usize,
+    );
+    Ok(())
 }

@@ -8,5 +8,5 @@ mod running;
 mod sending;
 mod step;
 
-// How many numbers of a log an answer has.
+// How many numbers of a log an answer has. C lends a log as numbers.
 pub const PER_ANSWER: usize = 2;

@@ -4,14 +4,9 @@ ghost use Rattle.std.specs.Prelude.{if◌then◌else◌};
 ghost use Rattle.decisions.specs.Sending.{addressed_to, skipping, to_proposer, item_of};
 
 use decisions::sending::Send;
-use model::Message;
+use model::records::Record;
+use model::{Kind, Message};
 use sets::ProposerId;
-
-pub(crate) fn count_of(send: Send) -> u8
-    ensures { result ≡ send.count }
-{
-    send.count
-}
 
 fn addressed_to(mut message: Message, addressee: u8) -> Message
     ensures { result ≡ addressed_to message addressee }
@@ -36,7 +31,7 @@ fn to_proposer(m: Message) -> Message
     let acceptor = m.acceptor;
     let set = m.set;
     Message {
-        kind: 3,
+        kind: Kind::Acknowledgement as u8,
         addressee,
         proposer: ProposerId(0),
         acceptor,
@@ -57,16 +52,20 @@ fn acknowledgement(m: Message, k: u8) -> Message
 }
 
 // Message `k` of what is to be sent.
+#[tactic(auto, unfolding(decisions::specs::Sending::item_of))]
 pub(crate) fn item(send: Send, k: u8) -> Message
     requires { k < 255 }
     ensures { result ≡ item_of send k }
 {
-    let message = send.message;
-    let shape = send.shape;
-    match shape {
-        1 => addressed_to(message, k),
-        2 => addressed_to(message, skipping(send.except, k)),
-        3 => acknowledgement(message, k),
-        _ => message,
+    match send {
+        Send::Nothing => Message::fresh(),
+        Send::One(message) => message,
+        Send::Everyone { message, .. } => addressed_to(message, k),
+        Send::Others {
+            except,
+            message,
+            ..
+        } => addressed_to(message, skipping(except, k)),
+        Send::Acknowledgements { message, .. } => acknowledgement(message, k),
     }
 }

@@ -1,28 +1,26 @@
 // One event on the records that a caller lends: fetch, decide, write back.
-ghost use Rattle.std.specs.Prelude.{◌≡◌, true, []};
-ghost use Rattle.model.specs.Records.{fresh_proposer, fresh_acceptor};
-ghost use Rattle.sizes.specs.Sizes.{sizes_in_range};
+ghost use Rattle.std.specs.Prelude.{◌≡◌, ◌<◌, [], length, set};
+ghost use Rattle.choice.specs.Refusals.{numbered};
+ghost use Rattle.model.specs.Table.{post};
+ghost use Rattle.decisions.specs.Sending.{items_of};
 ghost use Rattle.decisions.specs.Change.{slot_after};
+ghost use Rattle.machine.specs.Slots.{Ready};
 ghost use Rattle.machine.specs.Stepping.{index_in, party_of, Fits, Gives, step_of};
-ghost use Rattle.decisions.specs.Arms.{finish_of};
 ghost use Rattle.machine.specs.Roles.{step_at, GivesSlots, GivesProposers, GivesAcceptors, GivesLearners, OfTable, OfProposer, OfAcceptor, OfLearner, OfTold};
 
-use crate::lent::{
-    load_acceptor, load_ear, load_message, load_proposer, room, send_all, store_acceptor,
-    store_ear, store_message, store_proposer,
-};
+use crate::lent::{load_ear, room, send_all, store_ear};
+use choice::refusals::Refusal;
 use decisions::arms::{
-    Decision, Ear, Listened, arm_of, decide_acceptor, decide_proposer, decide_table, finish,
-    listen, reply, tell,
+    Arm, arm_of, decide_acceptor, decide_proposer, decide_table, finish, listen, reply, tell,
 };
 use decisions::decide::slot_after;
 use decisions::sending::Send;
-use model::{Acceptor, Answer, Event, Learner, Message, Proposer};
-use sets::{AcceptorId, LearnerId, ProposerId};
+use model::{Acceptor, Answer, Code, Event, Learner, Message, Proposer};
 use sizes::Sizes;
 
 // ---- which records an event finds. A number that is too great finds record 0, which it leaves as it is.
 
+#[tactic(auto, unfolding(crate::specs::Stepping::index_in))]
 fn index_in(i: u64, n: u16) -> usize
     ensures { result ≡ index_in i n }
 {
@@ -32,128 +30,35 @@ fn index_in(i: u64, n: u16) -> usize
     0
 }
 
-fn slot_at(z: Sizes, e: Event) -> usize
-    ensures { result ≡ index_in e.a z.slots }
-{
-    index_in(e.a, z.slots)
-}
-
 // The number of the party that an event is about.
+#[tactic(auto, unfolding(crate::specs::Stepping::party_at))]
 fn party_of(e: Event, m: Message) -> u64
     ensures { result ≡ party_of e m }
 {
-    let code = e.code;
-    match code {
-        2 => m.addressee as u64,
-        8 => e.b,
-        _ => e.a,
+    match Code::from(e.code) {
+        Code::Deliver => m.addressee as u64,
+        Code::Crash => e.b,
+        Code::Receive
+        | Code::Drop
+        | Code::Duplicate
+        | Code::Propose
+        | Code::Refine
+        | Code::Decide
+        | Code::NoCode => e.a,
     }
 }
 
-fn proposer_at(z: Sizes, i: u64) -> ProposerId
-    requires { sizes_in_range z ≡ true }
-    ensures { result ≡ record { 0 = index_in i z.proposers } }
+// ---- the arms: each takes its own records and the table, and leaves them where it refuses the event. What else they take is what their definitions take, one by one (`step_at`)
+
+// What an event leaves of the table: its slot is written, and then what it sends is posted.
+fn write_back(t: &mut [Message], k: usize, m: Message, frees: bool, send: Send)
+    requires slot { k < length t.old }
+    requires room { Ready send (set t.old k (slot_after frees m)) }
+    ensures { t.new ≡ post (items_of send) (set t.old k (slot_after frees m)) }
 {
-    let at = index_in(i, z.proposers);
-    let number = at as u8;
-    ProposerId(number)
+    t[k] = slot_after(frees, m);
+    send_all(t, send);
 }
-
-fn acceptor_at(z: Sizes, i: u64) -> AcceptorId
-    requires { sizes_in_range z ≡ true }
-    ensures { result ≡ record { 0 = index_in i z.acceptors } }
-{
-    let at = index_in(i, z.acceptors);
-    let number = at as u8;
-    AcceptorId(number)
-}
-
-fn learner_at(z: Sizes, i: u64) -> LearnerId
-    requires { sizes_in_range z ≡ true }
-    ensures { result ≡ record { 0 = index_in i z.learners } }
-{
-    let at = index_in(i, z.learners);
-    let number = at as u8;
-    LearnerId(number)
-}
-
-// ---- the arm that takes an event
-
-fn need_in(d: Decision) -> u8
-    ensures { result ≡ d.need }
-{
-    d.need
-}
-
-fn finish_proposer(d: Decision, left: u8, q: Proposer) -> Decision
-    ensures { result ≡ finish_of d left q fresh_acceptor }
-{
-    finish(d, left, q, Acceptor::fresh())
-}
-
-fn finish_acceptor(d: Decision, left: u8, c: Acceptor) -> Decision
-    ensures { result ≡ finish_of d left fresh_proposer c }
-{
-    finish(d, left, Proposer::fresh(), c)
-}
-
-fn finish_table(d: Decision, left: u8) -> Decision
-    ensures { result ≡ finish_of d left fresh_proposer fresh_acceptor }
-{
-    finish(d, left, Proposer::fresh(), Acceptor::fresh())
-}
-
-// ---- what is written back
-
-fn proposer_in(f: Decision) -> Proposer
-    ensures { result ≡ f.change.proposer }
-{
-    f.change.proposer
-}
-
-fn acceptor_in(f: Decision) -> Acceptor
-    ensures { result ≡ f.change.acceptor }
-{
-    f.change.acceptor
-}
-
-fn ear_in(y: Listened) -> Ear
-    ensures { result ≡ y.ear }
-{
-    y.ear
-}
-
-fn said_in(y: Listened) -> Answer
-    ensures { result ≡ y.answer }
-{
-    y.answer
-}
-
-fn slot_heard(y: Listened, m: Message) -> Message
-    ensures { result ≡ slot_after y.frees m }
-{
-    slot_after(y.frees, m)
-}
-
-fn proposer_of(m: Message) -> ProposerId
-    ensures { result ≡ m.proposer }
-{
-    m.proposer
-}
-
-fn slot_in(f: Decision, m: Message) -> Message
-    ensures { result ≡ slot_after f.change.frees m }
-{
-    slot_after(f.change.frees, m)
-}
-
-fn send_in(f: Decision) -> Send
-    ensures { result ≡ f.change.send }
-{
-    f.change.send
-}
-
-// ---- the arms: each takes its own records and the table
 
 fn step_learner(
     z: Sizes,
@@ -162,20 +67,18 @@ fn step_learner(
     e: Event,
     k: usize,
     m: Message,
-) -> Answer
+) -> Result<Answer, Refusal>
     requires { OfLearner z ls.old t.old e k m }
-    ensures { GivesLearners (step_at z e k m [] [] ls.old t.old) result ls.new t.new }
+    ensures { GivesLearners
+        (step_at z e k m [] [] ls.old t.old)
+        (numbered result) ls.new t.new }
 {
-    let i = party_of(e, m);
-    let li = learner_at(z, i);
-    let p = proposer_of(m);
-    let x = load_ear(ls, li, p);
-    let y = listen(z, e, m, x);
-    let x2 = ear_in(y);
-    store_ear(ls, li, p, x2);
-    let m2 = slot_heard(y, m);
-    store_message(t, k, m2);
-    said_in(y)
+    let i = index_in(party_of(e, m), z.learners);
+    let x = load_ear(ls, i, m.proposer);
+    let heeded = listen(z, e, m, x)?;
+    store_ear(ls, i, m.proposer, heeded.change.party);
+    t[k] = slot_after(heeded.change.frees, m);
+    Ok(heeded.answer)
 }
 
 fn step_told(
@@ -185,19 +88,18 @@ fn step_told(
     e: Event,
     k: usize,
     m: Message,
-) -> Answer
+) -> Result<Answer, Refusal>
     requires { OfTold z ps.old t.old e k m }
-    ensures { GivesProposers (step_at z e k m ps.old [] [] t.old) result ps.new t.new }
+    ensures { GivesProposers
+        (step_at z e k m ps.old [] [] t.old)
+        (numbered result) ps.new t.new }
 {
-    let i = party_of(e, m);
-    let pi = proposer_at(z, i);
-    let q = load_proposer(ps, pi);
-    let f = tell(z, e, m, q);
-    let q2 = proposer_in(f);
-    store_proposer(ps, pi, q2);
-    let m2 = slot_in(f, m);
-    store_message(t, k, m2);
-    reply(e, f)
+    let i = index_in(party_of(e, m), z.proposers);
+    let q = &mut ps[i];
+    let told = tell(z, e, m, *q)?;
+    *q = told.party;
+    t[k] = slot_after(told.frees, m);
+    Ok(Answer::Done)
 }
 
 fn step_acceptor(
@@ -207,24 +109,19 @@ fn step_acceptor(
     e: Event,
     k: usize,
     m: Message,
-) -> Answer
+) -> Result<Answer, Refusal>
     requires { OfAcceptor z acs.old t.old e k m }
-    ensures { GivesAcceptors (step_at z e k m [] acs.old [] t.old) result acs.new t.new }
+    ensures { GivesAcceptors
+        (step_at z e k m [] acs.old [] t.old)
+        (numbered result) acs.new t.new }
 {
-    let i = party_of(e, m);
-    let ai = acceptor_at(z, i);
-    let c = load_acceptor(acs, ai);
-    let d = decide_acceptor(z, e, m, c);
-    let need = need_in(d);
-    let left = room(t, need);
-    let f = finish_acceptor(d, left, c);
-    let c2 = acceptor_in(f);
-    store_acceptor(acs, ai, c2);
-    let m2 = slot_in(f, m);
-    store_message(t, k, m2);
-    let s = send_in(f);
-    send_all(t, s);
-    reply(e, f)
+    let i = index_in(party_of(e, m), z.acceptors);
+    let c = &mut acs[i];
+    let decided = decide_acceptor(z, e, m, *c)?;
+    let change = finish(Ok(decided), room(t, decided.need()))?;
+    *c = change.party;
+    write_back(t, k, m, change.frees, change.send);
+    Ok(Answer::Done)
 }
 
 fn step_proposer(
@@ -234,39 +131,35 @@ fn step_proposer(
     e: Event,
     k: usize,
     m: Message,
-) -> Answer
+) -> Result<Answer, Refusal>
     requires { OfProposer z ps.old t.old e k m }
-    ensures { GivesProposers (step_at z e k m ps.old [] [] t.old) result ps.new t.new }
+    ensures { GivesProposers
+        (step_at z e k m ps.old [] [] t.old)
+        (numbered result) ps.new t.new }
 {
-    let i = party_of(e, m);
-    let pi = proposer_at(z, i);
-    let q = load_proposer(ps, pi);
-    let d = decide_proposer(z, e, m, q);
-    let need = need_in(d);
-    let left = room(t, need);
-    let f = finish_proposer(d, left, q);
-    let q2 = proposer_in(f);
-    store_proposer(ps, pi, q2);
-    let m2 = slot_in(f, m);
-    store_message(t, k, m2);
-    let s = send_in(f);
-    send_all(t, s);
-    reply(e, f)
+    let i = index_in(party_of(e, m), z.proposers);
+    let q = &mut ps[i];
+    let decided = decide_proposer(z, e, m, *q)?;
+    let change = finish(Ok(decided), room(t, decided.need()))?;
+    *q = change.party;
+    write_back(t, k, m, change.frees, change.send);
+    reply(e, Ok(change.party.decided))
 }
 
-fn step_table(z: Sizes, t: &mut [Message], e: Event, k: usize, m: Message) -> Answer
+fn step_table(
+    z: Sizes,
+    t: &mut [Message],
+    e: Event,
+    k: usize,
+    m: Message,
+) -> Result<Answer, Refusal>
     requires { OfTable z t.old e k m }
-    ensures { GivesSlots (step_at z e k m [] [] [] t.old) result t.new }
+    ensures { GivesSlots (step_at z e k m [] [] [] t.old) (numbered result) t.new }
 {
-    let d = decide_table(z, e, m);
-    let need = need_in(d);
-    let left = room(t, need);
-    let f = finish_table(d, left);
-    let m2 = slot_in(f, m);
-    store_message(t, k, m2);
-    let s = send_in(f);
-    send_all(t, s);
-    reply(e, f)
+    let decided = decide_table(z, e, m)?;
+    let change = finish(Ok(decided), room(t, decided.need()))?;
+    write_back(t, k, m, change.frees, change.send);
+    Ok(Answer::Done)
 }
 
 // One event.
@@ -277,25 +170,18 @@ pub(crate) fn step(
     ls: &mut [Learner],
     t: &mut [Message],
     e: Event,
-) -> Answer
+) -> Result<Answer, Refusal>
     requires { Fits z ps.old acs.old ls.old t.old }
-    ensures { Gives (step_of z e ps.old acs.old ls.old t.old) result
+    ensures { Gives (step_of z e ps.old acs.old ls.old t.old) (numbered result)
         ps.new acs.new ls.new t.new }
 {
-    let k = slot_at(z, e);
-    let m = load_message(t, k);
-    let arm = arm_of(e, m);
-    if arm == 3 {
-        return step_learner(z, ls, t, e, k, m);
+    let k = index_in(e.a, z.slots);
+    let m = t[k];
+    match arm_of(e, m) {
+        Arm::Learner => step_learner(z, ls, t, e, k, m),
+        Arm::Told => step_told(z, ps, t, e, k, m),
+        Arm::Acceptor => step_acceptor(z, acs, t, e, k, m),
+        Arm::Proposer => step_proposer(z, ps, t, e, k, m),
+        Arm::Table => step_table(z, t, e, k, m),
     }
-    if arm == 4 {
-        return step_told(z, ps, t, e, k, m);
-    }
-    if arm == 2 {
-        return step_acceptor(z, acs, t, e, k, m);
-    }
-    if arm == 1 {
-        return step_proposer(z, ps, t, e, k, m);
-    }
-    step_table(z, t, e, k, m)
 }

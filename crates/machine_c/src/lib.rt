@@ -1,8 +1,9 @@
-// The calls of machine on lent records, under C's rules. A struct is laid out as in C, and a slice is a pointer and a length.
+// The calls of machine on lent records, under C's rules. A struct is laid out as in C, a slice is a pointer and a length, and a refusal its number, or 0.
 #![tactic(auto)]
 
 ghost use Rattle.machine.specs.Calls.{lent, FreshCall, SaidCall, RunCall};
 
+use choice::refusals::no_of;
 use machine::calls::Said;
 use model::{Acceptor, Event, Learner, Message, Proposer};
 use sizes::Sizes;
@@ -18,7 +19,7 @@ pub extern "C" fn machine_fresh(
     ensures { FreshCall z (lent ps.old acs.old ls.old t.old) result
         (lent ps.new acs.new ls.new t.new) }
 {
-    machine::calls::machine_fresh(z, ps, acs, ls, t)
+    no_of(machine::calls::machine_fresh(z, ps, acs, ls, t))
 }
 
 #[unsafe(no_mangle)]
@@ -51,5 +52,5 @@ pub extern "C" fn machine_run(
         events.now n log.old result
         (lent ps.new acs.new ls.new t.new) log.new }
 {
-    machine::calls::machine_run(z, ps, acs, ls, t, events, log, n)
+    no_of(machine::calls::machine_run(z, ps, acs, ls, t, events, log, n))
 }

@@ -5,13 +5,12 @@ use Rattle.sizes.specs.Sizes.{scans_in_range, sizes_in_range}
 use Rattle.sizes.specs.declared.Sizes.{Sizes}
 use Rattle.sets.proofs.Computing.{open_sets}
 use Rattle.model.specs.declared.Event.{Event}
-use Rattle.model.specs.declared.Answer.{Answer}
 use Rattle.model.specs.Records.{State, fresh}
 use Rattle.model.specs.Rules.{buffering, is_current, acknowledging, rejecting, may_propose, propose_no, proposing, may_refine, refine_no, refining, may_decide, decide_no, deciding, crashed_proposer, accepts, accepting, gaining, crashed_acceptor, hearing, learns, listening, crashed_learner}
 use Rattle.model.specs.Table.{free_slots, place, post, from, without}
 use Rattle.model.specs.Events.{delivery, proposes, crashed, effect, tests}
 use Rattle.model.specs.Ranges.{all, proposer_in_range, acceptor_in_range, heard_in_range, learner_in_range, fields_in_range, message_in_range, lengths_in_range, records_in_range}
-use Rattle.model.specs.Step.{stepped, step_no, step, run, answers}
+use Rattle.model.specs.Step.{Answered, stepped, step_no, step, run, answers}
 
 -- ---- `unfolding` one of these opens all that it names
 
@@ -56,7 +55,7 @@ unfolding run settled_run
 run_settled z s [] = refl
 run_settled z s (e ∷ es) = run_settled z (step z s e).state es ∙ sym (settled_same (step z s e).state (λ t. settled_run z t es))
 
-unfoldable pub settled_answers : Sizes → State → List Event → List Answer
+unfoldable pub settled_answers : Sizes → State → List Event → List Answered
 unfolding settled walked
 settled_answers z s [] = []
 settled_answers z s (e ∷ es) = (step z s e).answer ∷ settled (step z s e).state (λ t. settled_answers z t es)
@@ -65,5 +64,5 @@ pub answers-settled : (z : Sizes) (s : State) (es : List Event) → answers z s 
 unfolding answers settled_answers
 answers-settled z s [] = refl
 answers-settled z s (e ∷ es) =
-    ap (λ (l : List Answer). (step z s e).answer ∷ l)
+    ap (λ (l : List Answered). (step z s e).answer ∷ l)
     (answers-settled z (step z s e).state es ∙ sym (settled_same (step z s e).state (λ t. settled_answers z t es)))

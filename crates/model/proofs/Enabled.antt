@@ -8,18 +8,6 @@ use borrow.Author.Tests.{ltb-true, eq-eqb, ne_eqb}
 use Rattle.model.specs.Rules.{greatest_number}
 use Rattle.choice.specs.Tests.{◌unless◌, ◌⨾◌, ok}
 
--- a refusal by the first two tests, whatever follows them
-pub refused : (a e : Bool) (rest : ℕ) → ((5 unless a ⨾ 6 unless e ⨾ ok) ≡ 0 → ⊥) → (5 unless a ⨾ 6 unless e ⨾ ok) ≡ (5 unless a ⨾ 6 unless e ⨾ rest)
-refused true true rest h = absurd (h refl)
-refused true false rest h = refl
-refused false e rest h = refl
-
--- where they pass, what follows them
-pub passed : (a e : Bool) (rest : ℕ) → (5 unless a ⨾ 6 unless e ⨾ ok) ≡ 0 → (5 unless a ⨾ 6 unless e ⨾ rest) ≡ rest
-passed true true rest h = refl
-passed true false rest h = omega arith
-passed false e rest h = omega arith
-
 -- where all three pass, the number is below the greatest
 pub below-greatest : (a e : Bool) (n : ℕ) → (5 unless a ⨾ 6 unless e ⨾ 7 unless ltb n greatest_number ⨾ ok) ≡ 0 → n < greatest_number
 below-greatest a e n h = go a e (ltb n greatest_number) refl h

@@ -6,12 +6,13 @@ use mathlib.Core.List.{List, [], ◌∷◌}
 use Prim.Native.Nat.{ℕ}
 use native.Mathlib.Omega.{arith}
 use lib.ListN.{take}
+use Rattle.std.specs.Prelude.{Ok, Err}
 use Rattle.sizes.specs.declared.Sizes.{Sizes}
 use Rattle.sets.specs.Scans.{only, ◌∪◌, holds, ◌⊆◌, ◌∈◌}
 use Rattle.sets.specs.declared.scans.Scans.{Scans}
 use Rattle.sets.proofs.ScanLaws.{∈-only, ∈-left, not-∈-empty}
 use Rattle.model.specs.declared.Event.{Event}
-use Rattle.model.specs.declared.Answer.TheVariants.{Ok, Learnt, Decided, Refused}
+use Rattle.model.specs.declared.Answer.TheVariants.{Done, Learnt, Decided}
 use Rattle.model.specs.Records.{State, fresh, proposer_of, learner_of}
 use Rattle.model.specs.Step.{answers}
 use Rattle.model.specs.Safety.{moment, Given, learnt, decided, Received, MostAccepted}
@@ -46,7 +47,7 @@ abbrev seven : List Event
 seven = ev 1 0 0 ∷ ev 5 0 0 ∷ ev 2 1 0 ∷ ev 7 0 0 ∷ ev 2 2 0 ∷ ev 2 1 0 ∷ ev 7 0 0 ∷ []
 
 pub seven-answers : answers small (fresh small) seven
-    ≡ Ok ∷ Ok ∷ Ok ∷ Refused 6 ∷ Learnt (record { 0 = 0 }) (only 0) ∷ Ok ∷ Decided (record { 0 = 0 }) (only 0) ∷ []
+    ≡ Ok Done ∷ Ok Done ∷ Ok Done ∷ Err 6 ∷ Ok (Learnt (record { 0 = 0 }) (only 0)) ∷ Ok Done ∷ Ok (Decided (record { 0 = 0 }) (only 0)) ∷ []
 unfolding the_step settled_answers
 seven-answers = answers-settled small (fresh small) seven
 
@@ -84,11 +85,11 @@ abbrev every : Scans
 every = only 0 ∪ only 1 ∪ only 2
 
 pub contended-answers : answers three (fresh three) contended
-    ≡ Ok ∷ Ok ∷ Ok ∷ Ok ∷ Ok ∷ Ok ∷ Ok ∷ Ok ∷ Ok
-    ∷ Ok ∷ Ok ∷ Ok ∷ Refused 6 ∷ Ok
-    ∷ Ok ∷ Ok ∷ Ok ∷ Ok ∷ Ok
-    ∷ Ok ∷ Ok ∷ Ok ∷ Ok ∷ Decided (record { 0 = 0 }) both ∷ Ok ∷ Learnt (record { 0 = 0 }) both
-    ∷ Ok ∷ Ok ∷ Ok ∷ Ok ∷ Decided (record { 0 = 1 }) every ∷ Ok ∷ Learnt (record { 0 = 0 }) every ∷ []
+    ≡ Ok Done ∷ Ok Done ∷ Ok Done ∷ Ok Done ∷ Ok Done ∷ Ok Done ∷ Ok Done ∷ Ok Done ∷ Ok Done
+    ∷ Ok Done ∷ Ok Done ∷ Ok Done ∷ Err 6 ∷ Ok Done
+    ∷ Ok Done ∷ Ok Done ∷ Ok Done ∷ Ok Done ∷ Ok Done
+    ∷ Ok Done ∷ Ok Done ∷ Ok Done ∷ Ok Done ∷ Ok (Decided (record { 0 = 0 }) both) ∷ Ok Done ∷ Ok (Learnt (record { 0 = 0 }) both)
+    ∷ Ok Done ∷ Ok Done ∷ Ok Done ∷ Ok Done ∷ Ok (Decided (record { 0 = 1 }) every) ∷ Ok Done ∷ Ok (Learnt (record { 0 = 0 }) every) ∷ []
 unfolding the_step settled_answers
 contended-answers = answers-settled three (fresh three) contended
 

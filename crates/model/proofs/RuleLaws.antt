@@ -1,9 +1,11 @@
 -- What the rules of document 01 make of one party's record, as the theorem uses it.
-use mathlib.Core.Path.{◌≡◌, refl}
+use mathlib.Core.Path.{◌≡◌, refl, sym}
 use mathlib.Core.Bool.{true}
 use Prim.Native.Nat.{ℕ, ◌<◌}
+use native.Mathlib.Omega.{arith}
+use lib.Dec.{eqb, ltb}
 use lib.ListN.{set}
-use borrow.Author.Tests.{eqb-true, ltb-true}
+use borrow.Author.Tests.{ltb-true, ltb-false, eqb-true, eqb-false, lt-ltb, le-ltb}
 use Rattle.std.specs.Prelude.{if◌then◌else◌}
 use Rattle.sets.specs.Scans.{◌⊆◌, strictly_within}
 use Rattle.sets.specs.Acceptors.{is_majority}
@@ -11,10 +13,11 @@ use Rattle.sets.specs.declared.scans.Scans.{Scans}
 use Rattle.sets.proofs.ScanLaws.{⊆-left, within-true, true-within, strictly-true}
 use Rattle.model.specs.declared.Proposer.{Proposer}
 use Rattle.model.specs.declared.Acceptor.{Acceptor}
+use Rattle.model.specs.declared.Heard.{Heard}
 use Rattle.model.specs.declared.Learner.{Learner}
 use Rattle.model.specs.declared.Message.{Message}
-use Rattle.model.specs.Rules.{greatest_number, is_current, propose_no, refine_no, may_decide, decide_no, accepts, accepting, gaining, learns, newly_heard, listening}
-use Rattle.choice.proofs.Tests.{and_l, and_r, test-passed, rest-passed}
+use Rattle.model.specs.Rules.{greatest_number, Rank, higher, equal, lower, rank_of, is_lower, is_current, propose_no, refine_no, may_decide, decide_no, accepts, accepting, gaining, learns, newly_heard, listening}
+use Rattle.choice.proofs.Tests.{if-ind, and_l, and_r, test-passed, rest-passed}
 
 -- ---- an acceptor
 
@@ -53,6 +56,18 @@ unfolding refine_no
 refine-number a p e = search (ltb-true, rest-passed 4, rest-passed 5, test-passed 6)
 
 -- ---- a learner
+
+-- the rank is lower where the number is below the one heard
+pub rank_lower : (h : Heard) (m : Message) → is_lower (rank_of h m) ≡ ltb m.number h.number
+rank_lower h m =
+    if-ind Q (ltb h.number m.number) higher _
+    (λ e. let lt = ltb-true h.number m.number e in sym (le-ltb m.number h.number (omega arith)))
+    (λ e. if-ind Q (eqb h.number m.number) equal lower
+    (λ f. let eq = eqb-true h.number m.number f in sym (le-ltb m.number h.number (omega arith)))
+    (λ f. let le = ltb-false h.number m.number e in let ne = eqb-false h.number m.number f in sym (lt-ltb m.number h.number (omega arith))))
+  where
+    Q : Rank → Type 0
+    Q r = is_lower r ≡ ltb m.number h.number
 
 strictly-contained : (u v : Scans) → strictly_within u v ≡ true → u ⊆ v
 strictly-contained u v e = (strictly-true u v e).0

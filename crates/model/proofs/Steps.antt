@@ -3,9 +3,9 @@ use mathlib.Core.Path.{◌≡◌, refl, ap}
 use mathlib.Core.Bool.{true}
 use Prim.Native.Nat.{ℕ, zero, suc, ◌<◌}
 use borrow.Author.Tests.{ltb-true}
+use Rattle.std.specs.Prelude.{Ok, Err}
 use Rattle.sizes.specs.declared.Sizes.{Sizes}
 use Rattle.model.specs.declared.Event.{Event}
-use Rattle.model.specs.declared.Answer.TheVariants.{Refused}
 use Rattle.model.specs.Records.{State, proposer_of}
 use Rattle.model.specs.Rules.{propose_no, refine_no, decide_no}
 use Rattle.model.specs.Events.{receive, propose, refine, decide, code_of, Effect, effect, tests}
@@ -61,11 +61,11 @@ module _ (z : Sizes) (s : State) (e : Event) (ok : step_no z s e ≡ 0) where
   unfolding step_no
   ok_tests = search (rest-passed 0)
 
-  pub ok_step : step z s e ≡ record { answer = (does z s e).answer; state = sent (does z s e) }
+  pub ok_step : step z s e ≡ record { answer = Ok (does z s e).answer; state = sent (does z s e) }
   unfolding step stepped
   ok_step = ap (λ (n : ℕ). stepped n s (does z s e)) ok
 
 -- a refusal gives its number and changes nothing
-pub refusal-keeps : (z : Sizes) (s : State) (e : Event) (n : ℕ) → step_no z s e ≡ suc n → step z s e ≡ record { answer = Refused (suc n); state = s }
+pub refusal-keeps : (z : Sizes) (s : State) (e : Event) (n : ℕ) → step_no z s e ≡ suc n → step z s e ≡ record { answer = Err (suc n); state = s }
 unfolding step stepped
 refusal-keeps z s e n h = ap (λ (k : ℕ). stepped k s (does z s e)) h

@@ -6,16 +6,15 @@ use Rattle.sets.specs.Scans.{only}
 use Rattle.model.specs.declared.Proposer.{Proposer}
 use Rattle.model.specs.declared.Message.{Message}
 use Rattle.model.specs.declared.Answer.{Answer}
-use Rattle.model.specs.declared.Answer.TheVariants.{Ok, Learnt, Decided}
+use Rattle.model.specs.declared.Answer.TheVariants.{Done, Learnt, Decided}
 use Rattle.model.specs.Records.{State, Kind, free, internal, proposal, acknowledgement, rejection, announcement, no_kind, kind_of, Role, a_proposer, an_acceptor, a_learner, no_role, role_of, addressed, proposer_of, acceptor_of, learner_of, slot_of, put_proposer, put_acceptor, put_learner, freeing}
 use Rattle.choice.specs.Tests.{◌unless◌, ◌⨾◌, refusal, ok}
 use Rattle.model.specs.Rules.{buffering, is_current, acknowledging, rejecting, propose_no, proposing, refine_no, refining, decide_no, deciding, crashed_proposer, accepts, accepting, gaining, crashed_acceptor, learns, listening, crashed_learner}
 use Rattle.model.specs.Table.{Internal, Proposal, Acknowledgement, Rejection, Announcement, is_free, free_slots, every_one, every_other}
+pub use Rattle.model.specs.declared.Code.{Code}
+pub use Rattle.model.specs.declared.Code.TheVariants.{NoCode as no_code, Receive as receive, Deliver as deliver, Drop as drop, Duplicate as duplicate, Propose as propose, Refine as refine, Decide as decide, Crash as crash}
 
 -- ---- codes 1 to 8
-
-pub data Code : Type 0 where
-  receive deliver drop duplicate propose refine decide crash no_code : Code
 
 abbrev pub code_of : ℕ → Code
 code_of n =
@@ -30,7 +29,7 @@ pub record Effect : Type 0 where
 
 -- it leaves a state and sends nothing
 abbrev pub quiet : State → Effect
-quiet s = record { left = s; sends = []; answer = Ok }
+quiet s = record { left = s; sends = []; answer = Done }
 
 -- Deliver by kind, of a message whose slot is freed already
 unfoldable pub delivery : Sizes → State → Message → Kind → Effect
@@ -43,12 +42,12 @@ delivery z s m proposal =
       left = put_acceptor s m.addressee (accepting (acceptor_of s m.addressee) m.set);
       sends = Acknowledgement m.addressee m.number m.set m.proposer.0
           ∷ map (Announcement m.proposer.0 m.addressee m.number m.set) (every_one z.learners);
-      answer = Ok;
+      answer = Done;
     }
     else record {
       left = put_acceptor s m.addressee (gaining (acceptor_of s m.addressee) m.set);
       sends = Rejection m.addressee m.number (gaining (acceptor_of s m.addressee) m.set).accepted m.proposer.0 ∷ [];
-      answer = Ok;
+      answer = Done;
     }
 delivery z s m acknowledgement =
     if is_current (proposer_of s m.addressee) m.number
@@ -64,7 +63,7 @@ delivery z s m announcement =
       sends = [];
       answer = if learns z.acceptors (learner_of s m.addressee) m
           then Learnt (record { 0 = m.addressee }) (listening z.acceptors (learner_of s m.addressee) m).learnt
-          else Ok;
+          else Done;
     }
 delivery z s m no_kind = quiet s
 
@@ -73,7 +72,7 @@ unfoldable pub proposes : Sizes → State → ℕ → Proposer → Effect
 proposes z s a p = record {
   left = put_proposer s a p;
   sends = map (Proposal a p.number p.proposed) (every_one z.acceptors);
-  answer = Ok;
+  answer = Done;
 }
 
 -- not alive from then on
@@ -87,11 +86,11 @@ unfoldable pub effect : Sizes → State → Code → ℕ → ℕ → Effect
 effect z s receive a b = record {
   left = put_proposer s a (buffering (proposer_of s a) (only b));
   sends = map (Internal (only b)) (every_other a z.proposers);
-  answer = Ok;
+  answer = Done;
 }
 effect z s deliver a b = delivery z (freeing s a) (slot_of s a) (kind_of (slot_of s a).kind)
 effect z s drop a b = quiet (freeing s a)
-effect z s duplicate a b = record { left = s; sends = slot_of s a ∷ []; answer = Ok }
+effect z s duplicate a b = record { left = s; sends = slot_of s a ∷ []; answer = Done }
 effect z s propose a b = proposes z s a (proposing (proposer_of s a))
 effect z s refine a b = proposes z s a (refining (proposer_of s a))
 effect z s decide a b = record {

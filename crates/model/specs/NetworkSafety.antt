@@ -6,8 +6,7 @@ use Rattle.sets.specs.declared.scans.Scans.{Scans}
 use Rattle.sets.specs.declared.acceptors.Acceptors.{Acceptors}
 use Rattle.sets.specs.declared.ScanId.{ScanId}
 use Rattle.scan_table.specs.Table.{scans_in}
-use Rattle.shelf.specs.Shelf.{where_is}
-use Rattle.shelf.specs.declared.Shelf.TheVariants.{Shown}
+use Rattle.shelf.specs.Shelf.{where_is, shows}
 use Rattle.model.specs.Safety.{ShowsBy}
 use Rattle.model.specs.Network.{World, History}
 
@@ -49,4 +48,4 @@ module _ {A S : ℕ} (h : History A S) where
     -- over one scan table of the run's size, a tag found in the smaller set is found in the larger, at a scan time no earlier
     pub found_later : (i j : ℕ) (u v : Scans) → Given (h.world i) u → Given (h.world j) v → u ⊆ v
         → (table : List ℕ) → scans_in table ≡ S → (tag : ℕ) (scan : ScanId) (place time : ℕ)
-        → where_is table u tag ≡ Shown scan place time → ShowsBy time (where_is table v tag)
+        → where_is table u tag ≡ shows scan place time → ShowsBy time (where_is table v tag)

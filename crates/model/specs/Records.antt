@@ -8,6 +8,10 @@ use Rattle.model.specs.declared.Acceptor.{Acceptor}
 use Rattle.model.specs.declared.Heard.{Heard}
 use Rattle.model.specs.declared.Learner.{Learner}
 use Rattle.model.specs.declared.Message.{Message}
+pub use Rattle.model.specs.declared.Kind.{Kind}
+pub use Rattle.model.specs.declared.Kind.TheVariants.{Free as free, Internal as internal, Proposal as proposal, Acknowledgement as acknowledgement, Rejection as rejection, Announcement as announcement, NoKind as no_kind}
+pub use Rattle.model.specs.declared.Role.{Role}
+pub use Rattle.model.specs.declared.Role.TheVariants.{NoRole as no_role, Proposer as a_proposer, Acceptor as an_acceptor, Learner as a_learner}
 
 -- the records of a run's parties and the table of messages in flight
 pub record State : Type 0 where
@@ -18,15 +22,9 @@ pub record State : Type 0 where
 
 -- ---- kinds of messages and roles of parties
 
-pub data Kind : Type 0 where
-  free internal proposal acknowledgement rejection announcement no_kind : Kind
-
 -- 0 free, 1 internal, 2 proposal, 3 acknowledgement to a proposer, 4 rejection, 5 acknowledgement to a learner, here an announcement
 abbrev pub kind_of : ℕ → Kind
 kind_of n = get_or (free ∷ internal ∷ proposal ∷ acknowledgement ∷ rejection ∷ announcement ∷ []) n no_kind
-
-pub data Role : Type 0 where
-  a_proposer an_acceptor a_learner no_role : Role
 
 -- of Crash: role 1 proposer, 2 acceptor, 3 learner
 abbrev pub role_of : ℕ → Role

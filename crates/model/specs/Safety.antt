@@ -1,5 +1,5 @@
 -- Demand 3: what is safe about the machine, over the moments of any run from fresh.
-use Rattle.std.specs.Prelude.{◌≡◌, ◌⊎◌, true, List, ℕ, suc, ◌≤◌, ◌<◌, get_or, take}
+use Rattle.std.specs.Prelude.{◌≡◌, ◌⊎◌, true, List, ℕ, suc, ◌≤◌, ◌<◌, get_or, take, Ok}
 use Rattle.sizes.specs.declared.Sizes.{Sizes}
 use Rattle.sets.specs.Scans.{empty, ◌⊆◌, ◌∈◌}
 use Rattle.sets.specs.Acceptors.{◌among◌, fits_run, is_majority}
@@ -9,11 +9,9 @@ use Rattle.sets.specs.declared.ScanId.{ScanId}
 use Rattle.sets.specs.declared.LearnerId.{LearnerId}
 use Rattle.sets.specs.declared.ProposerId.{ProposerId}
 use Rattle.scan_table.specs.Table.{scans_in}
-use Rattle.shelf.specs.Shelf.{where_is}
-use Rattle.shelf.specs.declared.Shelf.{Shelf}
-use Rattle.shelf.specs.declared.Shelf.TheVariants.{Shown}
+use Rattle.shelf.specs.Shelf.{Shelf, where_is, shows}
 use Rattle.model.specs.declared.Event.{Event}
-use Rattle.model.specs.declared.Answer.TheVariants.{Ok, Learnt, Decided}
+use Rattle.model.specs.declared.Answer.TheVariants.{Done, Learnt, Decided}
 use Rattle.model.specs.Records.{State, proposal, kind_of, fresh, proposer_of, acceptor_of, learner_of, slot_of}
 use Rattle.model.specs.Events.{Code, receive, deliver, code_of}
 use Rattle.model.specs.Step.{step_no, run, answers}
@@ -41,8 +39,8 @@ pub data Given (s : State) (v : Scans) : Type 0 where
 
 -- event i of a run answered that the set is learnt, or that it is decided
 pub data Said (z : Sizes) (es : List Event) (i : ℕ) (v : Scans) : Type 0 where
-  tells_learnt : (l : LearnerId) → get_or (answers z (fresh z) es) i Ok ≡ Learnt l v → Said z es i v
-  tells_decided : (p : ProposerId) → get_or (answers z (fresh z) es) i Ok ≡ Decided p v → Said z es i v
+  tells_learnt : (l : LearnerId) → get_or (answers z (fresh z) es) i (Ok Done) ≡ Ok (Learnt l v) → Said z es i v
+  tells_decided : (p : ProposerId) → get_or (answers z (fresh z) es) i (Ok Done) ≡ Ok (Decided p v) → Said z es i v
 
 -- the event, meeting the state s, is an accepted Receive of the scan k
 pub record Receives (z : Sizes) (s : State) (e : Event) (k : ℕ) : Type 0 where
@@ -87,7 +85,7 @@ pub record ShowsBy (t : ℕ) (answer : Shelf) : Type 0 where
   pub scan : ScanId
   pub place : ℕ
   pub time : ℕ
-  pub shown : answer ≡ Shown scan place time
+  pub shown : answer ≡ shows scan place time
   pub later : t ≤ time
 
 -- ---- demand 3
@@ -106,4 +104,4 @@ pub record Safe (z : Sizes) (es : List Event) : Type 0 where
   -- over one scan table of the run's size, a tag found in the smaller set is found in the larger, at a scan time no earlier
   pub found_later : (i j : ℕ) (u v : Scans) → Given (moment z es i) u → Given (moment z es j) v → u ⊆ v
       → (table : List ℕ) → scans_in table ≡ z.scans → (tag : ℕ) (scan : ScanId) (place time : ℕ)
-      → where_is table u tag ≡ Shown scan place time → ShowsBy time (where_is table v tag)
+      → where_is table u tag ≡ shows scan place time → ShowsBy time (where_is table v tag)

@@ -1,13 +1,15 @@
 // The rule of a learner.
 ghost use Rattle.std.specs.Prelude.{◌≡◌};
 ghost use Rattle.model.specs.Records.{unheard, fresh_learner, heard_of};
+ghost use Rattle.model.specs.Ranges.{learner_in_range};
 ghost use Rattle.model.specs.Rules.{hearing, teaches, learns, listening, crashed_learner};
 
+use crate::records::Record;
 use crate::{Heard, Learner, Message};
-use choice::both;
 use sets::ProposerId;
 use sets::acceptors::Acceptors;
 use sets::scans::Scans;
+use sizes::Sizes;
 
 impl Heard {
     pub fn unheard() -> Heard
@@ -21,45 +23,44 @@ impl Heard {
     }
 
     // A higher number than heard replaces number, set and acceptors; an equal one adds the acceptor; a lower one does nothing more.
-    pub fn hear(mut self, m: Message) -> Heard
+    #[tactic(auto, unfolding(crate::specs::Rules::hearing))]
+    pub fn hear(self, m: Message) -> Heard
         ensures { result ≡ hearing self m }
     {
-        let acceptor = m.acceptor;
         if self.number < m.number {
-            let set = m.set;
-            let none = Acceptors::none();
-            let acceptors = none.with(acceptor);
-            return Heard {
+            Heard {
                 number: m.number,
-                set,
-                acceptors,
-            };
+                set: m.set,
+                acceptors: Acceptors::none().with(m.acceptor),
+            }
+        } else if self.number == m.number {
+            Heard {
+                acceptors: self.acceptors.with(m.acceptor),
+                ..self
+            }
+        } else {
+            self
         }
-        if self.number == m.number {
-            let acceptors = self.acceptors.with(acceptor);
-            self.acceptors = acceptors;
-            return self;
-        }
-        self
     }
 
     // Whether the acknowledgement makes a learner learn the set that is then held: it is not lower, the acceptors are then a majority, and learnt is strictly contained in the set.
+    #[tactic(auto, using(crate::proofs::RuleLaws::rank_lower))]
     pub fn teaches(self, m: Message, learnt: Scans, acceptors: u32) -> bool
         ensures { result ≡ teaches acceptors learnt self m }
     {
         let new = self.hear(m);
-        let newer = both(
-            !(m.number < self.number),
-            new.acceptors.is_majority_of(acceptors),
-        );
-        both(newer, learnt.is_strictly_contained_in(new.set))
+        !(m.number < self.number)
+            && new.acceptors.is_majority_of(acceptors)
+            && learnt.is_strictly_contained_in(new.set)
     }
 }
 
-impl Learner {
-    pub fn fresh() -> Learner
-        ensures { result ≡ fresh_learner }
-    {
+impl Record for Learner {
+    ghost fresh_record = { fresh_learner };
+
+    ghost is_in_range = { learner_in_range };
+
+    fn fresh() -> Learner {
         Learner {
             alive: true,
             learnt: Scans::empty(),
@@ -67,18 +68,33 @@ impl Learner {
         }
     }
 
+    // Of what it heard, the places of the run's own proposers.
+    fn in_range(self, z: Sizes) -> bool {
+        if !self.learnt.fits(z.scans as u32) {
+            return false;
+        }
+        for heard in self.heard.iter().take(z.proposers as usize) {
+            if !heard.in_range(z) {
+                return false;
+            }
+        }
+        true
+    }
+}
+
+impl Learner {
     // What it heard of a proposer; nothing of one past its places.
     pub fn heard_of(self, proposer: ProposerId) -> Heard
         ensures { result ≡ heard_of self proposer.0 }
     {
-        let i = proposer.0 as usize;
-        if i < 8 {
-            return self.heard[i];
+        match self.heard.get(proposer.0 as usize) {
+            Some(heard) => *heard,
+            None => Heard::unheard(),
         }
-        Heard::unheard()
     }
 
     // Whether the acknowledgement makes it learn.
+    #[tactic(auto, unfolding(crate::specs::Rules::learns))]
     pub fn learns(self, m: Message, acceptors: u32) -> bool
         ensures { result ≡ learns acceptors self m }
     {
@@ -86,29 +102,24 @@ impl Learner {
     }
 
     // Takes one acknowledgement, and hands the learner back. What it hears of a proposer past its places it does not hold.
+    #[tactic(auto, unfolding(crate::specs::Rules::listening, crate::specs::Rules::learns))]
     pub fn hear(mut self, m: Message, acceptors: u32) -> Learner
         ensures { result ≡ listening acceptors self m }
     {
         let old = self.heard_of(m.proposer);
         let new = old.hear(m);
-        let set = new.set;
-        let learns = old.teaches(m, self.learnt, acceptors);
-        let i = m.proposer.0 as usize;
-        if i < 8 {
-            self.heard[i] = new;
-            if learns {
-                self.learnt = set;
-                return self;
-            }
-            return self;
+        if old.teaches(m, self.learnt, acceptors) {
+            self.learnt = new.set;
         }
-        if learns {
-            self.learnt = set;
-            return self;
+        let place = m.proposer.0 as usize;
+        if place < self.heard.len() {
+            self.heard[place] = new;
         }
         self
     }
 
+    // Each kind of party crashes by this line of its own, as the impls of a trait would.
+    #[tactic(auto, unfolding(crate::specs::Rules::crashed_learner))]
     pub fn crash(mut self) -> Learner
         ensures { result ≡ crashed_learner self }
     {

@@ -9,13 +9,11 @@ use lib.Dec.{eqb, leb, lit≤}
 use lib.ListN.{length, take, drop, get_or, length-drop}
 use lib.Seq.{sets, sets-eq, length-take-le, drop-append_seam, get_or-drop}
 use borrow.Author.Tests.{leb-true, leb-false, lt-leb, le-leb}
+use Rattle.std.specs.Prelude.{Ok, Err}
 use Rattle.choice.proofs.Tests.{test-passed}
 use Rattle.numbers.specs.declared.Limit.{Limit}
 use Rattle.numbers.specs.declared.Limit.TheVariants.{Schedule, Table}
-use Rattle.numbers.specs.declared.Refusal.{Refusal}
-use Rattle.numbers.specs.declared.Read.TheVariants as read
-use Rattle.numbers.specs.declared.Written.TheVariants as written
-use Rattle.numbers.specs.Coding.{groups_of, most_of, refused_read, groups_from, read_number, form_in, form, limit_no, number_written, after_number}
+use Rattle.numbers.specs.Coding.{number_to, groups_of, most_of, groups_from, read_number, form_in, form, limit_no, number_written, after_number}
 use Rattle.numbers.proofs.Forms.{form-in-some, form-short, form-in-bytes}
 use Rattle.numbers.proofs.Groups.{groups-few}
 use Rattle.numbers.proofs.Reading.{Reads, Found, reads, reads-form, found-form, reads-refusals, reads-cut, cut-reads}
@@ -45,13 +43,13 @@ first_group v = go (eqb v 0)
     go true = refl
     go false = refl
 
-form-reads : (limit : Limit) (v : ℕ) (after : List ℕ) (i : ℕ) → v ≤ most_of limit → groups_from (groups_of limit) false (most_of limit) 0 1 (form v ++ after) i ≡ read.Number (0 + v * 1) (i + length (form v))
+form-reads : (limit : Limit) (v : ℕ) (after : List ℕ) (i : ℕ) → v ≤ most_of limit → groups_from (groups_of limit) false (most_of limit) 0 1 (form v ++ after) i ≡ number_to (0 + v * 1) (i + length (form v))
 unfolding form groups_of most_of
 form-reads Schedule v after i h = reads-form 2 9 false 65_535 0 1 v after i (lit≤ tt) (omega arith) (first_group v) (omega arith)
 form-reads Table v after i h = reads-form 6 9 false (2 ^ 48 - 1) 0 1 v after i (lit≤ tt) (omega arith) (first_group v) (omega arith)
 
 -- the form of a number within the limit reads as the number, wherever it stands
-pub written-reads : (limit : Limit) (v : ℕ) (before after : List ℕ) → v ≤ most_of limit → read_number limit (before ++ (form v ++ after)) (length before) ≡ read.Number v (length before + length (form v))
+pub written-reads : (limit : Limit) (v : ℕ) (before after : List ℕ) → v ≤ most_of limit → read_number limit (before ++ (form v ++ after)) (length before) ≡ number_to v (length before + length (form v))
 unfolding read_number
 written-reads limit v before after h =
     let e : 0 + v * 1 ≡ v = omega arith in
@@ -88,13 +86,13 @@ pub record Stored (limit : Limit) (v : ℕ) (d : List ℕ) (at n : ℕ) : Type 0
   pub buffer : after_number limit v d at ≡ sets d at (form v)
 
 -- what a writer says by a next place
-pub write-next : (limit : Limit) (v : ℕ) (d : List ℕ) (at n : ℕ) → number_written limit v d at ≡ written.Next n → Stored limit v d at n
+pub write-next : (limit : Limit) (v : ℕ) (d : List ℕ) (at n : ℕ) → number_written limit v d at ≡ Ok n → Stored limit v d at n
 write-next limit v d at n e =
     let s = put_next (limit_no limit v) (form v) d at n e in
     record { within = within-limit limit v s.passes; place = s.place; room = s.room; buffer = s.buffer }
 
 -- a number that is written into a buffer reads back there, to the same next place
-pub write-then-read : (limit : Limit) (v : ℕ) (d : List ℕ) (at n : ℕ) → number_written limit v d at ≡ written.Next n → read_number limit (after_number limit v d at) at ≡ read.Number v n
+pub write-then-read : (limit : Limit) (v : ℕ) (d : List ℕ) (at n : ℕ) → number_written limit v d at ≡ Ok n → read_number limit (after_number limit v d at) at ≡ number_to v n
 write-then-read limit v d at n e =
     let s = write-next limit v d at n e in
     let room : at + length (form v) ≤ length d = omega (arith, s.place, s.room) in
@@ -107,22 +105,22 @@ pub write-length : (limit : Limit) (v : ℕ) (d : List ℕ) (at : ℕ) → lengt
 write-length limit v d at = put-length (limit_no limit v) (form v) d at
 
 -- bytes before the place and from the next place on stay as they were
-pub write-stays : (limit : Limit) (v : ℕ) (d : List ℕ) (at n i : ℕ) → number_written limit v d at ≡ written.Next n → (i < at) ⊎ (n ≤ i) → get_or (after_number limit v d at) i 0 ≡ get_or d i 0
+pub write-stays : (limit : Limit) (v : ℕ) (d : List ℕ) (at n i : ℕ) → number_written limit v d at ≡ Ok n → (i < at) ⊎ (n ≤ i) → get_or (after_number limit v d at) i 0 ≡ get_or d i 0
 write-stays limit v d at n i e h = put-stays (limit_no limit v) (form v) d at n i e h
 
 -- a refusal leaves the buffer as it was
-pub write-refused : (limit : Limit) (v : ℕ) (d : List ℕ) (at : ℕ) (r : Refusal) → number_written limit v d at ≡ written.Refused r → after_number limit v d at ≡ d
+pub write-refused : (limit : Limit) (v : ℕ) (d : List ℕ) (at : ℕ) (r : ℕ) → number_written limit v d at ≡ Err r → after_number limit v d at ≡ d
 write-refused limit v d at r e = put_refused (limit_no limit v) (form v) d at r e
 
 -- a writer refuses with 12, for a number above the limit, or with 8, for one within it that has no room
-pub write-refusals : (limit : Limit) (v : ℕ) (d : List ℕ) (at : ℕ) (r : Refusal) → number_written limit v d at ≡ written.Refused r
-    → ((r.no ≡ 12) × (most_of limit < v)) ⊎ ((r.no ≡ 8) × (v ≤ most_of limit) × (length d < at + length (form v)))
+pub write-refusals : (limit : Limit) (v : ℕ) (d : List ℕ) (at : ℕ) (r : ℕ) → number_written limit v d at ≡ Err r
+    → ((r ≡ 12) × (most_of limit < v)) ⊎ ((r ≡ 8) × (v ≤ most_of limit) × (length d < at + length (form v)))
 write-refusals limit v d at r e = ⊎_map above short (put-refusals (limit_no limit v) (form v) d at r e)
   where
-    above : (r.no ≡ limit_no limit v) × (limit_no limit v ≡ 0 → ⊥) → (r.no ≡ 12) × (most_of limit < v)
+    above : (r ≡ limit_no limit v) × (limit_no limit v ≡ 0 → ⊥) → (r ≡ 12) × (most_of limit < v)
     above (p, h) = let l = above-limit limit v h in (p ∙ limit-above limit v l, l)
 
-    short : (r.no ≡ 8) × (limit_no limit v ≡ 0) × (length d < at + length (form v)) → (r.no ≡ 8) × (v ≤ most_of limit) × (length d < at + length (form v))
+    short : (r ≡ 8) × (limit_no limit v ≡ 0) × (length d < at + length (form v)) → (r ≡ 8) × (v ≤ most_of limit) × (length d < at + length (form v))
     short (p, z, l) = (p, within-limit limit v z, l)
 
 -- ---- what a number that is read says of the bytes
@@ -139,7 +137,7 @@ pub record FormAt (limit : Limit) (s : List ℕ) (at v n : ℕ) : Type 0 where
   pub within : v ≤ most_of limit
 
 -- a number is read only from its shortest form
-pub read-form : (limit : Limit) (s : List ℕ) (at v n : ℕ) → Bytes s → read_number limit s at ≡ read.Number v n → FormAt limit s at v n
+pub read-form : (limit : Limit) (s : List ℕ) (at v n : ℕ) → Bytes s → read_number limit s at ≡ number_to v n → FormAt limit s at v n
 unfolding form
 read-form limit s at v n b e =
     let h : Bytes (drop at s) = λ (k : ℕ). rw (get_or-drop at s k 0) (b (at + k)) in
@@ -155,7 +153,7 @@ pub record SameBytes (s : List ℕ) (i n : ℕ) (t : List ℕ) (j m : ℕ) : Typ
   pub bytes : take (n - i) (drop i s) ≡ take (m - j) (drop j t)
 
 -- a number has one form: where two byte strings read to the same number, they have the same bytes
-pub one_form : (limit limit' : Limit) (s t : List ℕ) (i j v n m : ℕ) → Bytes s → Bytes t → read_number limit s i ≡ read.Number v n → read_number limit' t j ≡ read.Number v m → SameBytes s i n t j m
+pub one_form : (limit limit' : Limit) (s t : List ℕ) (i j v n m : ℕ) → Bytes s → Bytes t → read_number limit s i ≡ number_to v n → read_number limit' t j ≡ number_to v m → SameBytes s i n t j m
 one_form limit limit' s t i j v n m b c e f =
     let p = read-form limit s i v n b e in
     let q = read-form limit' t j v m c f in
@@ -166,13 +164,13 @@ one_form limit limit' s t i j v n m b c e f =
 -- ---- what a reader refuses
 
 -- a reader refuses with 11 or 12
-pub refusals : (limit : Limit) (s : List ℕ) (at : ℕ) (r : Refusal) → read_number limit s at ≡ read.Refused r → (r.no ≡ 11) ⊎ (r.no ≡ 12)
+pub refusals : (limit : Limit) (s : List ℕ) (at : ℕ) (r : ℕ) → read_number limit s at ≡ Err r → (r ≡ 11) ⊎ (r ≡ 12)
 refusals limit s at r e = reads-refusals (reading limit s at) r e
 
 -- 11 exactly where fewer bytes are left than a number may have groups and each of them has its top bit set
-pub eleven : (limit : Limit) (s : List ℕ) (at : ℕ) → (read_number limit s at ≡ refused_read 11) ↔ Cut (groups_of limit) (drop at s)
+pub eleven : (limit : Limit) (s : List ℕ) (at : ℕ) → (read_number limit s at ≡ Err 11) ↔ Cut (groups_of limit) (drop at s)
 eleven limit s at = (reads-cut (reading limit s at), cut-reads (reading limit s at))
 
 -- every other refusal is 12
-pub twelve : (limit : Limit) (s : List ℕ) (at : ℕ) (r : Refusal) → read_number limit s at ≡ read.Refused r → (Cut (groups_of limit) (drop at s) → ⊥) → r.no ≡ 12
-twelve limit s at r e h = ⊎_elim (λ (z : r.no ≡ 11). absurd (h ((eleven limit s at).0 (e ∙ ap refused_read z)))) (λ (z : r.no ≡ 12). z) (refusals limit s at r e)
+pub twelve : (limit : Limit) (s : List ℕ) (at : ℕ) (r : ℕ) → read_number limit s at ≡ Err r → (Cut (groups_of limit) (drop at s) → ⊥) → r ≡ 12
+twelve limit s at r e h = ⊎_elim (λ (z : r ≡ 11). absurd (h ((eleven limit s at).0 (e ∙ ap Err z)))) (λ (z : r ≡ 12). z) (refusals limit s at r e)

@@ -1,14 +1,11 @@
 -- The number coding of document 01, "Written forms".
-use Rattle.std.specs.Prelude.{Bool, true, false, ◌&&◌, List, [], ◌∷◌, ℕ, zero, suc, ◌+◌, ◌-◌, ◌*◌, ◌/◌, ◌%◌, ◌^◌, min, eqb, ltb, leb, length, drop}
+use Rattle.std.specs.Prelude.{Bool, true, false, ◌&&◌, List, [], ◌∷◌, ℕ, zero, suc, ◌+◌, ◌-◌, ◌*◌, ◌/◌, ◌%◌, ◌^◌, min, eqb, ltb, leb, length, drop, Result, Ok, Err}
 use Rattle.std.proofs.lemmas.List.Edits.{sets}
 use Rattle.std.specs.Prelude.{if◌then◌else◌}
 use Rattle.choice.specs.Tests.{◌unless◌, refusal, ◌⨾◌, ok}
 use Rattle.numbers.specs.declared.Limit.{Limit}
 use Rattle.numbers.specs.declared.Limit.TheVariants.{Schedule, Table}
-use Rattle.numbers.specs.declared.Read.{Read}
-use Rattle.numbers.specs.declared.Read.TheVariants as read
-use Rattle.numbers.specs.declared.Written.{Written}
-use Rattle.numbers.specs.declared.Written.TheVariants as written
+use Rattle.numbers.specs.declared.Number.{Number}
 
 -- schedule numbers have at most three groups, scan table numbers seven
 unfoldable pub groups_of : Limit → ℕ
@@ -22,20 +19,25 @@ most_of Table = 2 ^ 48 - 1
 
 -- ---- reading
 
-abbrev pub refused_read : ℕ → Read
-refused_read n = read.Refused (record { no = n })
+-- what reading a number answers: the number and the place after it, or a refusal
+abbrev pub Read : Type 0
+Read = Result Number ℕ
+
+-- the number v, and next, the place after it
+abbrev pub number_to : ℕ → ℕ → Read
+number_to v next = Ok (record { value = v; next = next })
 
 -- the last group of a number: it is 0 only for the number 0 itself, where no group came before; the number is not too large
 unfoldable pub last_group : Bool → ℕ → ℕ → ℕ → ℕ → ℕ → Read
 last_group later most low weight group next =
     if eqb group 0 && later
-    then refused_read 12
-    else (if ltb most (low + group * weight) then refused_read 12 else read.Number (low + group * weight) next)
+    then Err 12
+    else (if ltb most (low + group * weight) then Err 12 else number_to (low + group * weight) next)
 
 -- the groups of seven bits from a place on, low group first, the top bit set while more follow: at most so many groups, `low` what those before came to
 unfoldable pub groups_from : ℕ → Bool → ℕ → ℕ → ℕ → List ℕ → ℕ → Read
-groups_from zero later most low weight bytes at = refused_read 12
-groups_from (suc g) later most low weight [] at = refused_read 11
+groups_from zero later most low weight bytes at = Err 12
+groups_from (suc g) later most low weight [] at = Err 11
 groups_from (suc g) later most low weight (b ∷ bytes) at =
     if ltb b 128
     then last_group later most low weight b (at + 1)
@@ -69,15 +71,16 @@ put_no n bytes buffer at =
     ⨾ 8 unless leb (at + length bytes) (length buffer)
     ⨾ ok
 
-abbrev pub refused_write : ℕ → Written
-refused_write n = written.Refused (record { no = n })
+-- what writing answers: the place after what is written, or a refusal
+abbrev pub Written : Type 0
+Written = Result ℕ ℕ
 
 -- what writing them answers: the place after them, or the refusal
 unfoldable pub put_answer : ℕ → List ℕ → List ℕ → ℕ → Written
 put_answer n bytes buffer at =
     if eqb (put_no n bytes buffer at) 0
-    then written.Next (at + length bytes)
-    else refused_write (put_no n bytes buffer at)
+    then Ok (at + length bytes)
+    else Err (put_no n bytes buffer at)
 
 -- the buffer after it: a refusal leaves it as it was
 unfoldable pub after_put : ℕ → List ℕ → List ℕ → ℕ → List ℕ
@@ -99,27 +102,17 @@ after_number limit v buffer at = after_put (limit_no limit v) (form v) buffer at
 
 -- ---- an answer as numbers
 
--- document 01's number of an answer: 0, or the refusal's
-abbrev pub read_no : Read → ℕ
-read_no (read.Number v n) = 0
-read_no (read.Refused r) = r.no
-
 -- the number that an answer gives, or what stood there before
 abbrev pub read_value : Read → ℕ → ℕ
-read_value (read.Number v n) old = v
-read_value (read.Refused r) old = old
+read_value (Ok n) old = n.value
+read_value (Err r) old = old
 
 -- the place that an answer gives, or what stood there before
 abbrev pub read_next : Read → ℕ → ℕ
-read_next (read.Number v n) old = n
-read_next (read.Refused r) old = old
-
--- document 01's number of an answer: 0, or the refusal's
-abbrev pub written_no : Written → ℕ
-written_no (written.Next n) = 0
-written_no (written.Refused r) = r.no
+read_next (Ok n) old = n.next
+read_next (Err r) old = old
 
 -- the place that an answer gives, or what stood there before
 abbrev pub written_next : Written → ℕ → ℕ
-written_next (written.Next n) old = n
-written_next (written.Refused r) old = old
+written_next (Ok n) old = n
+written_next (Err r) old = old

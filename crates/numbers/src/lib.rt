@@ -1,40 +1,31 @@
 // The number coding of the written forms: groups of seven bits, low group first, the top bit set while more follow.
 #![tactic(auto)]
 
-ghost use Rattle.std.specs.Prelude.{◌≡◌, ◌+◌, ◌*◌, ◌≤◌, ◌<◌, ◌^◌, false, ltb, length, drop};
+ghost use Rattle.std.specs.Prelude.{◌≡◌, length};
 ghost use Rattle.std.proofs.lemmas.List.Edits.{sets};
-ghost use Rattle.numbers.specs.Coding.{groups_of, most_of, last_group, groups_from, read_number, form, put_end, number_written, after_number, number_written_no, written_no};
+ghost use Rattle.choice.specs.Refusals.{numbered, no};
+ghost use Rattle.numbers.specs.Coding.{groups_of, most_of, read_number, form, put_end, number_written, after_number, number_written_no};
+
+use choice::refusals::{Refusal, refuse_unless};
 
 // How large a number may be: as a schedule has it, or as a scan table has it.
-#[derive(Clone, Copy)]
+#[derive(Clone, Copy, Debug, PartialEq, Eq, Hash)]
 pub enum Limit {
     Schedule,
     Table,
 }
 
-// The number of a refusal.
-#[derive(Clone, Copy)]
-pub struct Refusal {
-    pub no: u8,
-}
-
-// What is read: a number and the place after it, or a refusal.
-#[derive(Clone, Copy)]
-pub enum Read {
-    Number { value: u64, next: usize },
-    Refused(Refusal),
-}
-
-// What writing answers: the place after the written form, or a refusal.
-#[derive(Clone, Copy)]
-pub enum Written {
-    Next(usize),
-    Refused(Refusal),
+// A number that was read, and the place after it.
+#[derive(Clone, Copy, Debug, PartialEq, Eq, Hash)]
+pub struct Number {
+    pub value: u64,
+    pub next: usize,
 }
 
 impl Limit {
     // The most groups that a number may have.
-    fn groups(self) -> u32
+    #[tactic(auto, unfolding(crate::specs::Coding::groups_of))]
+    fn groups(self) -> usize
         ensures { result ≡ groups_of self }
     {
         match self {
@@ -44,6 +35,7 @@ impl Limit {
     }
 
     // The greatest number.
+    #[tactic(auto, unfolding(crate::specs::Coding::most_of))]
     pub fn most(self) -> u64
         ensures { result ≡ most_of self }
     {
@@ -54,56 +46,41 @@ impl Limit {
     }
 }
 
-// A number whose last group is `group`, of `weight`, above `low`; `earlier` says how many groups came before.
-fn last_group(earlier: u32, most: u64, low: u64, weight: u64, group: u64, next: usize) -> Read
-    requires { low + group * weight < 2 ^ 64 }
-    ensures { result ≡ last_group (ltb 0 earlier) most low weight group next }
+// The number at a place of the bytes, with the place after it; 11 where the bytes end before it does, 12 where it is not in shortest form or too large.
+pub fn read_number(bytes: &[u8], at: usize, limit: Limit) -> Result<Number, Refusal>
+    ensures { numbered result ≡ read_number limit bytes.now at }
 {
-    if group == 0 {
-        if 0 < earlier {
-            return Read::Refused(Refusal { no: 12 });
-        }
-    }
-    let value = low + group * weight;
-    if most < value {
-        return Read::Refused(Refusal { no: 12 });
-    }
-    Read::Number { value, next }
-}
-
-// The number at a place, of at most so many groups.
-fn read_groups(bytes: &[u8], at: usize, groups: u32, most: u64) -> Read
-    requires { groups ≤ 7 }
-    ensures { result ≡ groups_from groups false most 0 1 (drop at bytes.now) at }
-{
+    let Some(rest) = bytes.get(at..) else {
+        return Err(Refusal::EndsEarly)
+    };
     let mut low: u64 = 0;
     let mut weight: u64 = 1;
-    let mut earlier: u32 = 0;
-    let mut i = at;
-    while earlier < groups {
-        if bytes.len() <= i {
-            return Read::Refused(Refusal { no: 11 });
-        }
-        let group = bytes[i] as u64;
+    for earlier in 0..limit.groups() {
+        let Some(byte) = rest.get(earlier) else {
+            return Err(Refusal::EndsEarly)
+        };
+        let group = u64::from(*byte);
         if group < 128 {
-            return last_group(earlier, most, low, weight, group, i + 1);
+            if group == 0 && 0 < earlier {
+                return Err(Refusal::NotShortest);
+            }
+            let value = low + group * weight;
+            if limit.most() < value {
+                return Err(Refusal::NotShortest);
+            }
+            return Ok(Number {
+                value,
+                next: at + earlier + 1,
+            });
         }
-        low = low + (group - 128) * weight;
-        weight = weight * 128;
-        i += 1;
-        earlier += 1;
+        low += (group - 128) * weight;
+        weight *= 128;
     }
-    Read::Refused(Refusal { no: 12 })
-}
-
-// The number at a place of the bytes, with the place after it; 11 where the bytes end before it does, 12 where it is not in shortest form or too large.
-pub fn read_number(bytes: &[u8], at: usize, limit: Limit) -> Read
-    ensures { result ≡ read_number limit bytes.now at }
-{
-    read_groups(bytes, at, limit.groups(), limit.most())
+    Err(Refusal::NotShortest)
 }
 
 // How many bytes the shortest form of a number takes: one for every seven bits, the last of them in part, where 0 has one bit.
+#[tactic(auto, using(crate::proofs::Bits::bytes_of))]
 pub fn width(value: u64) -> usize
     ensures { result ≡ length (form value) }
 {
@@ -112,42 +89,37 @@ pub fn width(value: u64) -> usize
 }
 
 // Puts the shortest form of a number at a place, and gives the place after it. What would stand past the buffer's end is left out.
+// The buffer and the place are two parameters, here and in the crates above: a promise speaks of the caller's own slice at exit.
 pub fn put_number(buffer: &mut [u8], at: usize, value: u64) -> usize
     ensures { (result ≡ put_end (form value) buffer.old at)
         × (buffer.new ≡ sets buffer.old at (form value)) }
 {
-    let mut i = at;
     let mut rest = value;
-    while i < buffer.len() {
+    for i in at..buffer.len() {
         if rest < 128 {
             buffer[i] = rest as u8;
             return i + 1;
         }
         buffer[i] = (rest % 128 + 128) as u8;
-        rest = rest / 128;
-        i += 1;
+        rest /= 128;
     }
-    i
+    at.max(buffer.len())
 }
 
 // Writes the shortest form of a number at a place; 12 where the number is above the limit, 8 where there is no room, and then no byte changes.
-pub fn write_number(buffer: &mut [u8], at: usize, value: u64, limit: Limit) -> Written
-    ensures { (result ≡ number_written limit value buffer.old at)
+pub fn write_number(
+    buffer: &mut [u8],
+    at: usize,
+    value: u64,
+    limit: Limit,
+) -> Result<usize, Refusal>
+    ensures { (numbered result ≡ number_written limit value buffer.old at)
         × (buffer.new ≡ after_number limit value buffer.old at)
-        × (written_no result ≡ number_written_no limit value buffer.old at) }
+        × (no result ≡ number_written_no limit value buffer.old at) }
 {
-    if limit.most() < value {
-        return Written::Refused(Refusal { no: 12 });
-    }
+    refuse_unless(value <= limit.most(), Refusal::NotShortest)?;
     let n = width(value);
     let room = buffer.len();
-    if room < n {
-        return Written::Refused(Refusal { no: 8 });
-    }
-    if room - n < at {
-        return Written::Refused(Refusal { no: 8 });
-    }
-    put_number(buffer, at, value);
-    let next = at + n;
-    Written::Next(next)
+    refuse_unless(n <= room && at <= room - n, Refusal::NoRoom)?;
+    Ok(put_number(buffer, at, value))
 }

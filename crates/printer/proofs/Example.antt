@@ -11,7 +11,7 @@ use Rattle.forms.specs.Forms.{test_read, prepend, and_then, row, FormRead, read_
 use Rattle.schedule.specs.Schedule.{header_of, header_no, after_six, read_schedule}
 use Rattle.schedule.specs.declared.Header.{Header}
 use Rattle.text.specs.Words.{bytes}
-use Rattle.text.specs.Digits.{decimal_of, hex_of}
+use Rattle.text.specs.Digits.{decimal_of, digits_of}
 use Rattle.model.specs.Records.{fresh}
 use Rattle.model.specs.Table.{from}
 use Rattle.model.proofs.Computing.{the_step, settled_answers, answers-settled}
@@ -38,7 +38,7 @@ numbers-read = refl
 
 printed : text_of_read read
     ≡ bytes "1 ok\n2 ok\n3 ok\n4 refused 6\n5 ok\n5 learnt 0 0000000000000001\n6 ok\n7 ok\n7 decided 0 0000000000000001\nend 7 6 1\n"
-unfolding text_of_read from the_step settled_answers set_width set_text lines lines_from ok_count refused_count run_text decimal_of hex_of bytes
+unfolding text_of_read from the_step settled_answers set_width set_text lines lines_from ok_count refused_count run_text decimal_of digits_of bytes
 printed = ap (run_text 2) (answers-settled sizes (fresh sizes) (events_in (drop 6 example) 7))
 
 pub example-text : text example

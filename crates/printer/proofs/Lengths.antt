@@ -1,15 +1,16 @@
 -- How long the texts are. Assumes nothing.
 use mathlib.Core.Path.{◌≡◌}
 use mathlib.Core.List.{List, [], ◌∷◌}
-use Prim.Native.Nat.{ℕ, suc, ◌+◌, ◌*◌, ◌≤◌}
+use Prim.Native.Nat.{ℕ, suc, ◌+◌, ◌*◌, ◌^◌, ◌≤◌, ◌<◌}
 use native.Mathlib.Omega.{arith}
 use lib.ListN.{length, length-append}
 use Rattle.sets.specs.declared.LearnerId.{LearnerId}
 use Rattle.sets.specs.declared.ProposerId.{ProposerId}
 use Rattle.sets.specs.Scans.{first_word}
 use Rattle.sets.specs.declared.scans.Scans.{Scans}
-use Rattle.model.specs.declared.Answer.{Answer}
-use Rattle.model.specs.declared.Answer.TheVariants.{Ok, Learnt, Decided, Refused}
+use Rattle.std.specs.Prelude.{Ok, Err}
+use Rattle.model.specs.Step.{Answered}
+use Rattle.model.specs.declared.Answer.TheVariants.{Done, Learnt, Decided}
 use Rattle.text.specs.Words.{bytes}
 use Rattle.text.specs.Digits.{decimal}
 use Rattle.text.proofs.DigitLaws.{decimal-most, hex-length}
@@ -28,30 +29,30 @@ width-most s = omega arith
 -- ---- one event
 
 module _ (s place : ℕ) where
-  pub ok-length : length (lines s place Ok) ≡ length (decimal place) + 4
+  pub ok-length : length (lines s place (Ok Done)) ≡ length (decimal place) + 4
   unfolding lines bytes
   ok-length = simp length-append
 
-  pub learnt-length : (l : LearnerId) (v : Scans) → length (lines s place (Learnt l v)) ≡ 2 * length (decimal place) + 14 + set_width s + length (decimal l.0)
+  pub learnt-length : (l : LearnerId) (v : Scans) → length (lines s place (Ok (Learnt l v))) ≡ 2 * length (decimal place) + 14 + set_width s + length (decimal l.0)
   unfolding lines bytes
   learnt-length l v = simp (length-append, set-length) (omega arith)
 
-  pub decided-length : (p : ProposerId) (v : Scans) → length (lines s place (Decided p v)) ≡ 2 * length (decimal place) + 15 + set_width s + length (decimal p.0)
+  pub decided-length : (p : ProposerId) (v : Scans) → length (lines s place (Ok (Decided p v))) ≡ 2 * length (decimal place) + 15 + set_width s + length (decimal p.0)
   unfolding lines bytes
   decided-length p v = simp (length-append, set-length) (omega arith)
 
-  pub refused-length : (n : ℕ) → length (lines s place (Refused n)) ≡ length (decimal place) + 10 + length (decimal n)
+  pub refused-length : (n : ℕ) → length (lines s place (Err n)) ≡ length (decimal place) + 10 + length (decimal n)
   unfolding lines bytes
   refused-length n = simp length-append (omega arith)
 
 -- at most 75 bytes and a set, whatever the numbers are
-pub lines-most : (s place : ℕ) (w : Answer) → length (lines s place w) ≤ 75 + widest_set
-lines-most s place Ok = omega (arith, ok-length s place, decimal-most 20 place)
-lines-most s place (Learnt l v) = omega (arith, learnt-length s place l v, width-most s, decimal-most 20 place, decimal-most 20 l.0)
-lines-most s place (Decided p v) = omega (arith, decided-length s place p v, width-most s, decimal-most 20 place, decimal-most 20 p.0)
-lines-most s place (Refused n) = omega (arith, refused-length s place n, decimal-most 20 place, decimal-most 20 n)
+pub lines-most : (s place : ℕ) (w : Answered) → length (lines s place w) ≤ 75 + widest_set
+lines-most s place (Ok Done) = omega (arith, ok-length s place, decimal-most 20 place)
+lines-most s place (Ok (Learnt l v)) = omega (arith, learnt-length s place l v, width-most s, decimal-most 20 place, decimal-most 20 l.0)
+lines-most s place (Ok (Decided p v)) = omega (arith, decided-length s place p v, width-most s, decimal-most 20 place, decimal-most 20 p.0)
+lines-most s place (Err n) = omega (arith, refused-length s place n, decimal-most 20 place, decimal-most 20 n)
 
-pub lines-from-most : (s place : ℕ) (ws : List Answer) → length (lines_from s place ws) ≤ (75 + widest_set) * length ws
+pub lines-from-most : (s place : ℕ) (ws : List Answered) → length (lines_from s place ws) ≤ (75 + widest_set) * length ws
 unfolding lines_from
 lines-from-most s place [] = omega arith
 lines-from-most s place (w ∷ ws) = rw (length-append (lines s place w) (lines_from s (suc place) ws)) (omega (arith, lines-most s place w, lines-from-most s (suc place) ws))
@@ -68,3 +69,7 @@ end-most events ok refused = omega (arith, end-length events ok refused, decimal
 pub refusal-length : (n : ℕ) → length (refused_text n) ≡ 18 + length (decimal n)
 unfolding refused_text bytes
 refusal-length n = simp length-append (omega arith)
+
+-- 64 bits hold it
+pub refusal-short : (n : ℕ) → length (refused_text n) < 2 ^ 64
+refusal-short n = omega (arith, refusal-length n, decimal-most 20 n)

@@ -10,23 +10,20 @@ use borrow.Author.Tests.{le-leb}
 use Rattle.sizes.specs.Sizes.{sizes_in_range}
 use Rattle.sizes.specs.Events.{most_events}
 use Rattle.sizes.specs.declared.Sizes.{Sizes}
-use Rattle.numbers.specs.declared.Refusal.{Refusal}
-use Rattle.numbers.specs.declared.Written.{Written}
-use Rattle.numbers.specs.declared.Written.TheVariants as written
+use Rattle.std.specs.Prelude.{Result, Ok, Err}
+use Rattle.numbers.specs.Coding.{Written}
 use Rattle.text.proofs.DigitLaws.{decimal-most}
 use Rattle.numbers.proofs.Puts.{wrote}
 use Rattle.forms.specs.Forms.{FormRead, read_as, unread, into_room, after_room}
 use Rattle.forms.proofs.Rooms.{Fills, form-refused, room-enough}
-use Rattle.schedule.specs.Schedule.{read_schedule, schedule_answer}
+use Rattle.schedule.specs.Schedule.{ScheduleRead, read_schedule, schedule_answer}
 use Rattle.schedule.specs.declared.Header.{Header}
-use Rattle.schedule.specs.declared.ScheduleRead.TheVariants as schedule
 use Rattle.schedule.proofs.ScheduleLaws.{schedule-whole}
 use Rattle.model.specs.Records.{fresh}
 use Rattle.model.specs.Table.{from}
-use Rattle.model.specs.Step.{answers}
+use Rattle.model.specs.Step.{Answered, answers}
 use Rattle.model.specs.declared.Event.{Event}
-use Rattle.model.specs.declared.Answer.{Answer}
-use Rattle.model.specs.declared.Answer.TheVariants.{Ok, Learnt, Decided, Refused}
+use Rattle.model.specs.declared.Answer.TheVariants.{Done, Learnt, Decided}
 use Rattle.model.proofs.Lists.{All, none, also}
 use Rattle.model.proofs.Answers.{Named, names_none, names_learner, names_proposer, names_refusal, all_named}
 use Rattle.machine.specs.Log.{per_answer, logged, answers_in}
@@ -41,14 +38,14 @@ use Rattle.printer.proofs.Longest.{Short, longest}
 
 -- ---- the answers of a run are read back from its log
 
-named_small : (z : Sizes) → sizes_in_range z ≡ true → (w : Answer) → Named z w → Small w
-named_small z h Ok names_none = tt
-named_small z h (Learnt l v) (names_learner i) = omega (arith, (bounds z h).few-learners)
-named_small z h (Decided p v) (names_proposer i) = omega (arith, (bounds z h).few-proposers)
-named_small z h (Refused n) (names_refusal l m) = (l, omega arith)
+named_small : (z : Sizes) → sizes_in_range z ≡ true → (w : Answered) → Named z w → Small w
+named_small z h (Ok Done) names_none = tt
+named_small z h (Ok (Learnt l v)) (names_learner i) = omega (arith, (bounds z h).few-learners)
+named_small z h (Ok (Decided p v)) (names_proposer i) = omega (arith, (bounds z h).few-proposers)
+named_small z h (Err n) (names_refusal l m) = (l, omega arith)
 
 -- what holds of each answer that names what exists
-all-answers : {z : Sizes} (Q : Answer → Type 0) → ((w : Answer) → Named z w → Q w) → {ws : List Answer} → All (Named z) ws → All Q ws
+all-answers : {z : Sizes} (Q : Answered → Type 0) → ((w : Answered) → Named z w → Q w) → {ws : List Answered} → All (Named z) ws → All Q ws
 all-answers Q f none = none
 all-answers Q f (also {x = w} x xs) = also (f w x) (all-answers Q f xs)
 
@@ -70,7 +67,7 @@ module _ (z : Sizes) (ns log : List ℕ) (n : ℕ) (h : sizes_in_range z ≡ tru
       → (r ≡ text_written (text_of_run z ns n) buffer) × (left ≡ after_text (text_of_run z ns n) buffer)
   run-printed buffer log' r left e p =
       let w : answers_in log' n ≡ answers z (fresh z) (events_in ns n) = ap (λ (l : List ℕ). answers_in l n) e ∙ run-log in
-      (p.0 ∙ ap (λ (ws : List Answer). text_written (run_text z.scans ws) buffer) w, p.1 ∙ ap (λ (ws : List Answer). after_text (run_text z.scans ws) buffer) w)
+      (p.0 ∙ ap (λ (ws : List Answered). text_written (run_text z.scans ws) buffer) w, p.1 ∙ ap (λ (ws : List Answered). after_text (run_text z.scans ws) buffer) w)
 
 -- ---- the events of a schedule that is read
 
@@ -98,40 +95,40 @@ module _ (bytes room : List ℕ) (size : length room ≡ 12_288) where
     pub numbers : 3 * h.events ≤ length (after_room (read_schedule bytes) room)
     pub same : text_of_run h.sizes (after_room (read_schedule bytes) room) h.events ≡ text bytes
 
-  ran-by : (o : FormRead Header) → read_schedule bytes ≡ o → (h : Header) → schedule_answer (into_room o room) ≡ schedule.Events h → Ran h
+  ran-by : (o : FormRead Header) → read_schedule bytes ≡ o → (h : Header) → schedule_answer (into_room o room) ≡ Ok h → Ran h
   unfolding schedule_answer text_of_read
   ran-by (read_as g fields) e h q =
       let w = schedule-whole bytes e in
       let f = fills g fields e in
-      let k : g ≡ h = let z : schedule.Events g ≡ schedule.Events h = ap schedule_answer f.0 ∙ q in cc in
+      let k : g ≡ h = let z : ◌≡◌ {A = ScheduleRead} (Ok g) (Ok h) = ap schedule_answer f.0 ∙ q in cc in
       record {
         sizes = rw (← k) w.right.sizes;
         few = rw (← k) w.right.count;
         numbers = rw (e, ← f.1, length-sets room 0 fields, ← k) (omega (arith, w.right.count));
         same = rw (e, ← f.1, ← k) (ap (λ (es : List Event). run_text g.sizes.scans (answers g.sizes (fresh g.sizes) es)) (events-in-room room fields g.events (omega (arith, w.count)) (omega (arith, w.count, w.right.count))));
       }
-  ran-by (unread r) e h q = absurd (let y : schedule.Refused r ≡ schedule.Events h = ap schedule_answer (form-refused Header room r).0 ∙ q in let z : ◌≡◌ {A = ℕ} 0 1 = cc in omega arith)
+  ran-by (unread r) e h q = absurd (let y : ◌≡◌ {A = ScheduleRead} (Err r) (Ok h) = ap schedule_answer (form-refused Header room r).0 ∙ q in let z : ◌≡◌ {A = ℕ} 0 1 = cc in omega arith)
 
-  pub ran : (h : Header) → schedule_answer (into_room (read_schedule bytes) room) ≡ schedule.Events h → Ran h
+  pub ran : (h : Header) → schedule_answer (into_room (read_schedule bytes) room) ≡ Ok h → Ran h
   ran h q = ran-by (read_schedule bytes) refl h q
 
-  refused-by : (o : FormRead Header) → read_schedule bytes ≡ o → (r : Refusal) → schedule_answer (into_room o room) ≡ schedule.Refused r → refused_text r.no ≡ text bytes
+  refused-by : (o : FormRead Header) → read_schedule bytes ≡ o → (r : ℕ) → schedule_answer (into_room o room) ≡ Err r → refused_text r ≡ text bytes
   unfolding schedule_answer text_of_read
-  refused-by (read_as g fields) e r q = absurd (let z : schedule.Events g ≡ schedule.Refused r = ap schedule_answer (fills g fields e).0 ∙ q in let y : ◌≡◌ {A = ℕ} 0 1 = cc in omega arith)
+  refused-by (read_as g fields) e r q = absurd (let z : ◌≡◌ {A = ScheduleRead} (Ok g) (Err r) = ap schedule_answer (fills g fields e).0 ∙ q in let y : ◌≡◌ {A = ℕ} 0 1 = cc in omega arith)
   refused-by (unread s) e r q =
-      let y : schedule.Refused s ≡ schedule.Refused r = ap schedule_answer (form-refused Header room s).0 ∙ q in
-      rw e (ap (λ (x : Refusal). refused_text x.no) (let z : r ≡ s = cc in z))
+      let y : ◌≡◌ {A = ScheduleRead} (Err s) (Err r) = ap schedule_answer (form-refused Header room s).0 ∙ q in
+      rw e (ap refused_text (let z : r ≡ s = cc in z))
 
-  pub refused-printed : (r : Refusal) → schedule_answer (into_room (read_schedule bytes) room) ≡ schedule.Refused r → refused_text r.no ≡ text bytes
+  pub refused-printed : (r : ℕ) → schedule_answer (into_room (read_schedule bytes) room) ≡ Err r → refused_text r ≡ text bytes
   refused-printed r q = refused-by (read_schedule bytes) refl r q
 
 -- ---- no text is longer than the bound
 
-named-short : (z : Sizes) → sizes_in_range z ≡ true → (w : Answer) → Named z w → Short w
-named-short z h Ok names_none = tt
-named-short z h (Learnt l v) (names_learner i) = omega (arith, (bounds z h).few-learners)
-named-short z h (Decided p v) (names_proposer i) = omega (arith, (bounds z h).few-proposers)
-named-short z h (Refused n) (names_refusal l m) = omega arith
+named-short : (z : Sizes) → sizes_in_range z ≡ true → (w : Answered) → Named z w → Short w
+named-short z h (Ok Done) names_none = tt
+named-short z h (Ok (Learnt l v)) (names_learner i) = omega (arith, (bounds z h).few-learners)
+named-short z h (Ok (Decided p v)) (names_proposer i) = omega (arith, (bounds z h).few-proposers)
+named-short z h (Err n) (names_refusal l m) = omega arith
 
 text-by : (bytes : List ℕ) (o : FormRead Header) → read_schedule bytes ≡ o → length (text_of_read o) ≤ longest_text
 unfolding text_of_read
@@ -140,14 +137,14 @@ text-by bytes (read_as h fields) e =
     let z = h.sizes in
     let es = events_in fields h.events in
     longest z.scans (answers z (fresh z) es) (omega (arith, length-answers z (fresh z) es, length_from (event_of fields) 0 h.events, w.count)) (all-answers Short (named-short z w.sizes) (all_named z (fresh z) es))
-text-by bytes (unread r) e = omega (arith, refusal-length r.no, decimal-most 20 r.no)
+text-by bytes (unread r) e = omega (arith, refusal-length r, decimal-most 20 r)
 
 -- whatever the bytes are
 pub text-most : (bytes : List ℕ) → length (text bytes) ≤ longest_text
 text-most bytes = text-by bytes (read_schedule bytes) refl
 
 -- so a buffer of that length is never too short
-pub never-eight : (bytes buffer : List ℕ) → longest_text ≤ length buffer → text_written (text bytes) buffer ≡ written.Next (length (text bytes))
+pub never-eight : (bytes buffer : List ℕ) → longest_text ≤ length buffer → text_written (text bytes) buffer ≡ Ok (length (text bytes))
 never-eight bytes buffer h =
     let n : length (text bytes) ≡ 0 + length (text bytes) = omega arith in
-    sym (ap written.Next n ∙ (wrote 0 (text bytes) buffer 0 refl (omega (arith, text-most bytes))).0)
+    sym (ap Ok n ∙ (wrote 0 (text bytes) buffer 0 refl (omega (arith, text-most bytes))).0)

@@ -13,11 +13,11 @@ use Rattle.schedule.specs.declared.Header.{Header}
 use Rattle.schedule.proofs.ScheduleLaws.{Bytes, schedule-whole, schedule-one-form}
 use Rattle.model.specs.Records.{State, fresh}
 use Rattle.model.specs.Table.{from}
-use Rattle.model.specs.Step.{step, run, answers}
+use Rattle.model.specs.Step.{Answered, step, run, answers}
 use Rattle.model.specs.Safety.{moment}
 use Rattle.model.specs.declared.Event.{Event}
-use Rattle.model.specs.declared.Answer.{Answer}
-use Rattle.model.specs.declared.Answer.TheVariants.{Ok, Learnt, Decided, Refused}
+use Rattle.std.specs.Prelude.{Ok, Err}
+use Rattle.model.specs.declared.Answer.TheVariants.{Done, Learnt, Decided}
 use Rattle.model.proofs.Answers.{Says, is_fine, is_learnt, is_decided, is_refused, answer-says}
 use Rattle.model.proofs.Safety.{safe}
 use Rattle.machine.specs.Calls.{event_of, events_in}
@@ -41,15 +41,15 @@ numbers-in ns n l = numbers-from ns 0 n (omega arith)
 
 -- ---- what is said is so
 
-says_so : (z : Sizes) (s : State) (w : Answer) → Says z s w → IsSo z s w
+says_so : (z : Sizes) (s : State) (w : Answered) → Says z s w → IsSo z s w
 unfolding IsSo
-says_so z s Ok is_fine = tt
-says_so z s (Learnt _ _) (is_learnt l v i h) = (i, h)
-says_so z s (Decided _ _) (is_decided p v i h) = (i, h)
-says_so z s (Refused _) (is_refused n l m) = tt
+says_so z s (Ok Done) is_fine = tt
+says_so z s (Ok (Learnt _ _)) (is_learnt l v i h) = (i, h)
+says_so z s (Ok (Decided _ _)) (is_decided p v i h) = (i, h)
+says_so z s (Err _) (is_refused n l m) = tt
 
 -- each answer of a run, after its event
-answers-so : (z : Sizes) (s : State) (es : List Event) (i : ℕ) → IsSo z (run z s (take (suc i) es)) (get_or (answers z s es) i Ok)
+answers-so : (z : Sizes) (s : State) (es : List Event) (i : ℕ) → IsSo z (run z s (take (suc i) es)) (get_or (answers z s es) i (Ok Done))
 unfolding answers run IsSo
 answers-so z s [] i = tt
 answers-so z s (e ∷ es) zero = says_so z (step z s e).state (step z s e).answer (answer-says z s e)

@@ -1,4 +1,5 @@
-pub mod Adds
 pub mod Text
 pub mod Printing
 pub mod Telling
+pub mod Sinks
+pub mod Sinking

@@ -16,7 +16,7 @@ text_of_run z ns n = run_text z.scans (answers z (fresh z) (events_in ns n))
 -- of a schedule that is read, by its header and the numbers of its events; or of its refusal
 unfoldable pub text_of_read : FormRead Header → List ℕ
 text_of_read (read_as h fields) = text_of_run h.sizes fields h.events
-text_of_read (unread r) = refused_text r.no
+text_of_read (unread r) = refused_text r
 
 abbrev pub text : List ℕ → List ℕ
 text bytes = text_of_read (read_schedule bytes)

@@ -1,16 +1,14 @@
 -- Document 01, the end of "Written forms": what the run printer prints.
-use Rattle.std.specs.Prelude.{List, [], ◌∷◌, ◌++◌, ℕ, suc, ◌+◌, ◌*◌, eqb, length}
+use Rattle.std.specs.Prelude.{List, [], ◌∷◌, ◌++◌, ℕ, suc, ◌+◌, ◌*◌, eqb, length, Ok, Err}
 use Rattle.std.specs.Prelude.{if◌then◌else◌}
 use Rattle.sets.specs.Scans.{first_word}
 use Rattle.sets.specs.declared.scans.Scans.{Scans}
 use Rattle.sizes.specs.Events.{most_events}
-use Rattle.numbers.specs.Coding.{put_no, put_answer, after_put}
-use Rattle.numbers.specs.declared.Written.{Written}
+use Rattle.numbers.specs.Coding.{Written, put_no, put_answer, after_put}
 use Rattle.text.specs.Words.{bytes}
 use Rattle.text.specs.Digits.{decimal, hex_of}
-use Rattle.model.specs.Step.{answer_no}
-use Rattle.model.specs.declared.Answer.{Answer}
-use Rattle.model.specs.declared.Answer.TheVariants.{Ok, Learnt, Decided, Refused}
+use Rattle.model.specs.Step.{Answered, answer_no}
+use Rattle.model.specs.declared.Answer.TheVariants.{Done, Learnt, Decided}
 
 -- ---- a set of a run of s scans: hex digits, lower case, the highest first, scan 0 the lowest bit
 
@@ -46,33 +44,33 @@ learnt_line s place learner v = set_line s place (bytes " learnt ") learner v
 abbrev pub decided_line : ℕ → ℕ → ℕ → Scans → List ℕ
 decided_line s place proposer v = set_line s place (bytes " decided ") proposer v
 
-unfoldable pub lines : ℕ → ℕ → Answer → List ℕ
-lines s place Ok = ok_line place
-lines s place (Learnt l v) = ok_line place ++ learnt_line s place l.0 v
-lines s place (Decided p v) = ok_line place ++ decided_line s place p.0 v
-lines s place (Refused n) = refused_line place n
+unfoldable pub lines : ℕ → ℕ → Answered → List ℕ
+lines s place (Ok Done) = ok_line place
+lines s place (Ok (Learnt l v)) = ok_line place ++ learnt_line s place l.0 v
+lines s place (Ok (Decided p v)) = ok_line place ++ decided_line s place p.0 v
+lines s place (Err n) = refused_line place n
 
 -- ---- a run of s scans: its events from a place on, then end, events, ok count, refused count
 
-unfoldable pub lines_from : ℕ → ℕ → List Answer → List ℕ
+unfoldable pub lines_from : ℕ → ℕ → List Answered → List ℕ
 lines_from s place [] = []
 lines_from s place (w ∷ ws) = lines s place w ++ lines_from s (suc place) ws
 
-unfoldable pub ok_count : List Answer → ℕ
+unfoldable pub ok_count : List Answered → ℕ
 ok_count [] = 0
 ok_count (w ∷ ws) = if eqb (answer_no w) 0 then suc (ok_count ws) else ok_count ws
 
-unfoldable pub refused_count : List Answer → ℕ
+unfoldable pub refused_count : List Answered → ℕ
 refused_count [] = 0
 refused_count (w ∷ ws) = if eqb (answer_no w) 0 then refused_count ws else suc (refused_count ws)
 
 abbrev pub end_with : ℕ → ℕ → ℕ → List ℕ
 end_with events ok refused = bytes "end " ++ decimal events ++ bytes " " ++ decimal ok ++ bytes " " ++ decimal refused ++ bytes "\n"
 
-abbrev pub end_line : List Answer → List ℕ
+abbrev pub end_line : List Answered → List ℕ
 end_line ws = end_with (length ws) (ok_count ws) (refused_count ws)
 
-unfoldable pub run_text : ℕ → List Answer → List ℕ
+unfoldable pub run_text : ℕ → List Answered → List ℕ
 run_text s ws = lines_from s 1 ws ++ end_line ws
 
 -- no text of at most 4,096 events of a run is longer: 24 bytes and a set for each, and 19 for the last line

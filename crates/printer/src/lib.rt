@@ -1,54 +1,51 @@
 // The text of a run: what the run printer prints.
 #![tactic(auto)]
 
-ghost use Rattle.std.specs.Prelude.{◌≡◌, ◌++◌, ◌+◌, ◌*◌, ◌≤◌, eqb, length, true};
-ghost use Rattle.std.specs.Prelude.{if◌then◌else◌};
-ghost use Rattle.numbers.specs.Coding.{written_no};
-ghost use Rattle.text.specs.Words.{bytes};
+ghost use Rattle.std.specs.Prelude.{◌≡◌, ◌++◌, ◌+◌, ◌*◌, ◌^◌, ◌<◌, ◌≤◌, eqb, length, true};
+ghost use Rattle.choice.specs.Refusals.{numbered, no};
 ghost use Rattle.text.specs.Digits.{decimal};
 ghost use Rattle.model.specs.Step.{answer_no};
 ghost use Rattle.machine.specs.Log.{per_answer, read_numbers, answer_at, answers_in};
 ghost use Rattle.sizes.specs.Sizes.{sizes_in_range};
 ghost use Rattle.sizes.specs.Events.{most_events};
-ghost use Rattle.printer.specs.Adds.{Adds};
-ghost use Rattle.printer.specs.Text.{set_width, set_text, refused_line, set_line, lines, lines_from, ok_count, end_with, run_text, refused_text, text_written, after_text, text_written_no};
+ghost use Rattle.printer.specs.Text.{refused_line, set_line, lines, end_with, run_text, refused_text, text_written, after_text, text_written_no};
 ghost use Rattle.printer.specs.Printing.{text_of_run, text};
 
+mod sinks;
+
+use choice::refusals::{Refusal, refuse_unless};
 use machine::PER_ANSWER;
 use model::Answer;
-use numbers::{Refusal, Written};
-use schedule::{Header, ScheduleRead};
+use schedule::Header;
 use sets::scans::Scans;
 use sets::{LearnerId, ProposerId};
+use sinks::{Count, Page, Sink, Text};
 
-// The answer of a log whose numbers come first.
-fn answer_of(numbers: &[u64]) -> Answer
+// The answer of a log whose numbers come first. A log may have a number that no `Refusal` has.
+#[tactic(auto, unfolding(machine::specs::Log::read_answer_of, sets::specs::Scans::of_first_word, sets::specs::Scans::wordwise))]
+fn answer_of(numbers: &[u64]) -> Result<Answer, u8>
     requires { per_answer ≤ length numbers.now }
     ensures { result ≡ read_numbers numbers.now }
 {
     let code = numbers[0];
-    if code == 0 {
-        return Answer::Ok;
-    }
-    if code < 256 {
-        return Answer::Refused(code as u8);
-    }
     let party = (code % 256) as u8;
-    let scans = Scans { bits: numbers[1] };
-    if code < 512 {
-        return Answer::Learnt {
+    let set = Scans::from(numbers[1]);
+    match code {
+        0 => Ok(Answer::Done),
+        1..=255 => Err(code as u8),
+        256..=511 => Ok(Answer::Learnt {
             learner: LearnerId(party),
-            set: scans,
-        };
-    }
-    Answer::Decided {
-        proposer: ProposerId(party),
-        set: scans,
+            set,
+        }),
+        _ => Ok(Answer::Decided {
+            proposer: ProposerId(party),
+            set,
+        }),
     }
 }
 
 // Answer k of a log.
-fn answer_at(log: &[u64], k: usize) -> Answer
+fn answer_at(log: &[u64], k: usize) -> Result<Answer, u8>
     requires { per_answer * (k + 1) ≤ length log.now }
     ensures { result ≡ answer_at log.now k }
 {
@@ -56,229 +53,128 @@ fn answer_at(log: &[u64], k: usize) -> Answer
     answer_of(&log[at..])
 }
 
-// How many digits a set has in a run of so many scans.
-fn set_width(scans: u16) -> usize
-    ensures { result ≡ set_width scans }
-{
-    16
-}
-
-// How many bytes the lines of an event take: its numbers, the digits of a set, and the words with their spaces and line ends.
-fn lines_length(scans: u16, place: u64, answer: Answer) -> usize
-    ensures { result ≡ length (lines scans place answer) }
-{
-    let width = text::decimal_width(place);
-    let digits = set_width(scans);
-    match answer {
-        Answer::Ok => width + 4,
-        Answer::Learnt { learner, set: _ } => 2 * width
-            + 14
-            + digits
-            + text::decimal_width(learner.0 as u64),
-        Answer::Decided { proposer, set: _ } => 2 * width
-            + 15
-            + digits
-            + text::decimal_width(proposer.0 as u64),
-        Answer::Refused(no) => width + 10 + text::decimal_width(no as u64),
-    }
-}
-
-// How many bytes the last line takes: its numbers, the word, three spaces and the line end.
-fn end_line_length(events: u64, ok: u64, refused: u64) -> usize
-    ensures { result ≡ length (end_with events ok refused) }
-{
-    7 + text::decimal_width(events) + text::decimal_width(ok) + text::decimal_width(refused)
-}
-
-// How much an answer adds to the count of those that are ok.
-fn ok_one(answer: Answer) -> u64
-    ensures { result ≡ (if eqb (answer_no answer) 0 then 1 else 0) }
+// A refused answer may have the number of ok.
+fn is_ok(answer: Result<Answer, u8>) -> bool
+    ensures { result ≡ eqb (answer_no answer) 0 }
 {
     match answer {
-        Answer::Ok => 1,
-        Answer::Learnt { learner: _, set: _ } => 1,
-        Answer::Decided {
-            proposer: _,
-            set: _,
-        } => 1,
-        Answer::Refused(no) => {
-            if no == 0 {
-                return 1;
-            }
-            0
-        }
+        Ok(_) => true,
+        Err(no) => no == 0,
     }
-}
-
-// How many bytes the lines of a run take, and how many of its events are ok.
-#[derive(Clone, Copy)]
-struct Tally {
-    length: usize,
-    ok: u64,
-}
-
-fn count_events(scans: u16, log: &[u64], n: usize) -> Tally
-    requires { (per_answer * n ≤ length log.now) × (n ≤ 65535) }
-    ensures { (result.length ≡ length (lines_from scans 1 (answers_in log.now n)))
-        × (result.ok ≡ ok_count (answers_in log.now n)) }
-{
-    let mut length: usize = 0;
-    let mut ok: u64 = 0;
-    let mut k: usize = 0;
-    while k < n {
-        let answer = answer_at(log, k);
-        length += lines_length(scans, (k + 1) as u64, answer);
-        ok += ok_one(answer);
-        k += 1;
-    }
-    Tally { length, ok }
-}
-
-// Each `add_` function puts a text at a place that has room for it, and gives the place after it.
-
-fn add_word(buffer: &mut [u8], at: usize, word: &[u8]) -> usize
-    requires { at + length word.now ≤ length buffer.old }
-    ensures { Adds word.now buffer.old at result buffer.new }
-{
-    text::put_word(buffer, at, word);
-    at + word.len()
 }
 
 // A decimal number and a word after it.
-fn add_number(buffer: &mut [u8], at: usize, value: u64, word: &[u8]) -> usize
-    requires { at + length (decimal value ++ word.now) ≤ length buffer.old }
-    ensures { Adds (decimal value ++ word.now) buffer.old at result buffer.new }
+fn add_number<S: Sink>(to: &mut S, value: u64, word: &[u8])
+    ensures { S.adds (decimal value ++ word.now) to.old to.new }
 {
-    text::put_decimal(buffer, at, value);
-    add_word(buffer, at + text::decimal_width(value), word)
+    to.number(value);
+    to.word(word)
 }
 
-// A set of a run of so many scans, which ends its line.
-fn add_set(buffer: &mut [u8], at: usize, scans: u16, set: Scans) -> usize
-    requires { at + length (set_text scans set ++ bytes "\n") ≤ length buffer.old }
-    ensures { Adds (set_text scans set ++ bytes "\n") buffer.old at result buffer.new }
+fn add_refused_line<S: Sink>(to: &mut S, place: u64, no: u64)
+    ensures { S.adds (refused_line place no) to.old to.new }
 {
-    text::put_hex(buffer, at, set.first_word());
-    add_word(buffer, at + set_width(scans), b"\n")
+    add_number(to, place, b" refused ");
+    add_number(to, no, b"\n")
 }
 
-fn add_refused_line(buffer: &mut [u8], at: usize, place: u64, no: u64) -> usize
-    requires { at + length (refused_line place no) ≤ length buffer.old }
-    ensures { Adds (refused_line place no) buffer.old at result buffer.new }
+fn add_set_line<S: Sink>(to: &mut S, scans: u16, place: u64, word: &[u8], party: u64, set: Scans)
+    ensures { S.adds (set_line scans place word.now party set) to.old to.new }
 {
-    let next = add_number(buffer, at, place, b" refused ");
-    add_number(buffer, next, no, b"\n")
-}
-
-fn add_set_line(
-    buffer: &mut [u8],
-    at: usize,
-    scans: u16,
-    place: u64,
-    word: &[u8],
-    party: u64,
-    set: Scans,
-) -> usize
-    requires { at + length (set_line scans place word.now party set) ≤ length buffer.old }
-    ensures { Adds (set_line scans place word.now party set) buffer.old at result buffer.new }
-{
-    let of_party = add_number(buffer, at, place, word);
-    let of_set = add_number(buffer, of_party, party, b" ");
-    add_set(buffer, of_set, scans, set)
+    add_number(to, place, word);
+    add_number(to, party, b" ");
+    to.set(scans, set);
+    to.word(b"\n")
 }
 
 // The lines of an event.
-fn add_lines(buffer: &mut [u8], at: usize, scans: u16, place: u64, answer: Answer) -> usize
-    requires { at + length (lines scans place answer) ≤ length buffer.old }
-    ensures { Adds (lines scans place answer) buffer.old at result buffer.new }
+fn add_lines<S: Sink>(to: &mut S, scans: u16, place: u64, answer: Result<Answer, u8>)
+    ensures { S.adds (lines scans place answer) to.old to.new }
 {
     match answer {
-        Answer::Ok => add_number(buffer, at, place, b" ok\n"),
-        Answer::Learnt { learner, set } => {
-            let next = add_number(buffer, at, place, b" ok\n");
-            add_set_line(
-                buffer,
-                next,
-                scans,
-                place,
-                b" learnt ",
-                learner.0 as u64,
-                set,
-            )
+        Ok(done) => {
+            add_number(to, place, b" ok\n");
+            match done {
+                Answer::Done => (),
+                Answer::Learnt { learner, set } => {
+                    add_set_line(to, scans, place, b" learnt ", u64::from(learner.0), set)
+                }
+                Answer::Decided { proposer, set } => {
+                    add_set_line(to, scans, place, b" decided ", u64::from(proposer.0), set)
+                }
+            }
         }
-        Answer::Decided { proposer, set } => {
-            let next = add_number(buffer, at, place, b" ok\n");
-            add_set_line(
-                buffer,
-                next,
-                scans,
-                place,
-                b" decided ",
-                proposer.0 as u64,
-                set,
-            )
+        Err(no) => add_refused_line(to, place, u64::from(no)),
+    }
+}
+
+fn add_end_line<S: Sink>(to: &mut S, events: u64, ok: u64, refused: u64)
+    ensures { S.adds (end_with events ok refused) to.old to.new }
+{
+    to.word(b"end ");
+    add_number(to, events, b" ");
+    add_number(to, ok, b" ");
+    add_number(to, refused, b"\n")
+}
+
+// A run of so many scans and events whose answers stand in a log, which may be longer (`HasAnswers`). Nothing compares or prints it.
+#[derive(Clone, Copy)]
+struct Run<'a> {
+    scans: u16,
+    log: &'a [u64],
+    events: u16,
+}
+
+impl Text for Run<'_> {
+    ghost use Rattle.printer.specs.Sinks.{run, HasAnswers};
+
+    ghost text = { run };
+
+    ghost can_add = { HasAnswers };
+
+    fn add<S: Sink>(&self, to: &mut S) {
+        let mut ok: u64 = 0;
+        for k in 0..self.events {
+            let answer = answer_at(self.log, k as usize);
+            add_lines(to, self.scans, k as u64 + 1, answer);
+            ok += is_ok(answer) as u64;
         }
-        Answer::Refused(no) => add_refused_line(buffer, at, place, no as u64),
+        add_end_line(to, self.events as u64, ok, self.events as u64 - ok)
     }
 }
 
-// The lines of the first n events of a log.
-fn add_events(buffer: &mut [u8], scans: u16, log: &[u64], n: usize) -> usize
-    requires { (per_answer * n ≤ length log.now) × (length (lines_from scans 1 (answers_in log.now n)) ≤ length buffer.old) }
-    ensures { Adds (lines_from scans 1 (answers_in log.now n)) buffer.old 0 result buffer.new }
-{
-    let mut next: usize = 0;
-    let mut k: usize = 0;
-    while k < n {
-        let answer = answer_at(log, k);
-        next = add_lines(buffer, next, scans, (k + 1) as u64, answer);
-        k += 1;
+#[derive(Clone, Copy, Debug, PartialEq, Eq, Hash)]
+struct RefusedSchedule {
+    refusal: Refusal,
+}
+
+impl Text for RefusedSchedule {
+    ghost use Rattle.printer.specs.Sinks.{refused};
+
+    ghost text = { refused };
+
+    fn add<S: Sink>(&self, to: &mut S) {
+        to.word(b"schedule refused ");
+        add_number(to, u64::from(u8::from(self.refusal)), b"\n")
     }
-    next
 }
 
-fn add_end_line(buffer: &mut [u8], at: usize, events: u64, ok: u64, refused: u64) -> usize
-    requires { at + length (end_with events ok refused) ≤ length buffer.old }
-    ensures { Adds (end_with events ok refused) buffer.old at result buffer.new }
+// The text goes into a buffer that has room for all of it, and no byte of it into any other.
+fn print_text<T: Text>(buffer: &mut [u8], text: &T) -> Result<usize, Refusal>
+    requires can { T.can_add text.now }
+    requires short { length (T.text text.now) < 2 ^ 64 }
+    ensures { (numbered result ≡ text_written (T.text text.now) buffer.old)
+        × (buffer.new ≡ after_text (T.text text.now) buffer.old) }
 {
-    let of_events = add_word(buffer, at, b"end ");
-    let of_ok = add_number(buffer, of_events, events, b" ");
-    let of_refused = add_number(buffer, of_ok, ok, b" ");
-    add_number(buffer, of_refused, refused, b"\n")
+    let mut count = Count { bytes: 0 };
+    text.add(&mut count);
+    refuse_unless(count.bytes <= buffer.len(), Refusal::NoRoom)?;
+    let mut page = Page { buffer, at: 0 };
+    text.add(&mut page);
+    Ok(page.at)
 }
 
-// The text of a run of so many scans whose answers stand in a log.
-fn print_log(buffer: &mut [u8], scans: u16, log: &[u64], n: u16) -> Written
-    requires { per_answer * n ≤ length log.now }
-    ensures { (result ≡ text_written (run_text scans (answers_in log.now n)) buffer.old)
-        × (buffer.new ≡ after_text (run_text scans (answers_in log.now n)) buffer.old) }
-{
-    let events = n as usize;
-    let counts = count_events(scans, log, events);
-    let ok = counts.ok;
-    let refused = events as u64 - ok;
-    let length = counts.length + end_line_length(events as u64, ok, refused);
-    if buffer.len() < length {
-        return Written::Refused(Refusal { no: 8 });
-    }
-    let next = add_events(buffer, scans, log, events);
-    Written::Next(add_end_line(buffer, next, events as u64, ok, refused))
-}
-
-// The text of a refused schedule: 18 bytes of words, and the number.
-fn print_refusal(buffer: &mut [u8], no: u8) -> Written
-    ensures { (result ≡ text_written (refused_text no) buffer.old)
-        × (buffer.new ≡ after_text (refused_text no) buffer.old) }
-{
-    let number = no as u64;
-    if buffer.len() < 18 + text::decimal_width(number) {
-        return Written::Refused(Refusal { no: 8 });
-    }
-    let next = add_word(buffer, 0, b"schedule refused ");
-    Written::Next(add_number(buffer, next, number, b"\n"))
-}
-
-// Room for the numbers of the most events that a schedule has, and for their answers.
+// Room for the numbers of the most events that a schedule has, and for their answers: memory is fixed, with no heap.
 const MOST_EVENTS: usize = 4_096;
 
 const MOST_NUMBERS: usize = 3 * MOST_EVENTS;
@@ -286,27 +182,32 @@ const MOST_NUMBERS: usize = 3 * MOST_EVENTS;
 const MOST_ANSWERS: usize = PER_ANSWER * MOST_EVENTS;
 
 // The text of a run from fresh.
-fn print_run(buffer: &mut [u8], events: &[u64], header: Header) -> Written
+fn print_run(buffer: &mut [u8], events: &[u64], header: Header) -> Result<usize, Refusal>
     requires { (sizes_in_range header.sizes ≡ true)
         × ((header.events ≤ most_events) × (3 * header.events ≤ length events.now)) }
-    ensures { (result ≡ text_written (text_of_run header.sizes events.now header.events) buffer.old)
+    ensures { (numbered result ≡ text_written (text_of_run header.sizes events.now header.events) buffer.old)
         × (buffer.new ≡ after_text (text_of_run header.sizes events.now header.events) buffer.old) }
 {
     let mut log: [u64; MOST_ANSWERS] = [0; MOST_ANSWERS];
-    machine::calls::whole_run(header.sizes, events, &mut log, header.events);
-    print_log(buffer, header.sizes.scans, &log, header.events)
+    // The run of a schedule that is read is never refused.
+    let _ = machine::calls::whole_run(header.sizes, events, &mut log, header.events);
+    let run = Run {
+        scans: header.sizes.scans,
+        log: &log,
+        events: header.events,
+    };
+    print_text(buffer, &run)
 }
 
 // What the bytes of a schedule print: the text goes into the buffer, and its length is answered.
-pub fn print(buffer: &mut [u8], bytes: &[u8]) -> Written
-    ensures { (result ≡ text_written (text bytes.now) buffer.old)
+pub fn print(buffer: &mut [u8], bytes: &[u8]) -> Result<usize, Refusal>
+    ensures { (numbered result ≡ text_written (text bytes.now) buffer.old)
         × (buffer.new ≡ after_text (text bytes.now) buffer.old)
-        × (written_no result ≡ text_written_no (text bytes.now) buffer.old) }
+        × (no result ≡ text_written_no (text bytes.now) buffer.old) }
 {
     let mut room: [u64; MOST_NUMBERS] = [0; MOST_NUMBERS];
-    let read = schedule::read_schedule(&mut room, bytes);
-    match read {
-        ScheduleRead::Events(header) => print_run(buffer, &room, header),
-        ScheduleRead::Refused(refusal) => print_refusal(buffer, refusal.no),
+    match schedule::read_schedule(&mut room, bytes) {
+        Ok(header) => print_run(buffer, &room, header),
+        Err(refusal) => print_text(buffer, &RefusedSchedule { refusal }),
     }
 }

@@ -7,10 +7,9 @@ ghost use Rattle.std.proofs.lemmas.List.Edits.{sets};
 ghost use Rattle.printer.specs.Text.{longest_text};
 ghost use Rattle.printer.specs.Printing.{text};
 
-use numbers::Written;
 use std::io::{self, Read, Write};
 
-// One byte past the longest schedule decides the answer for anything longer.
+// Buffers have a fixed length, with no heap. One byte past the longest schedule decides the answer for anything longer.
 const MOST_INPUT: usize = 36_873;
 
 // No text is longer.
@@ -22,14 +21,10 @@ fn print_text(output: &mut [u8], bytes: &[u8]) -> usize
     ensures { (result ≡ length (text bytes.now))
         × (output.new ≡ sets output.old 0 (text bytes.now)) }
 {
-    let printed = printer::print(output, bytes);
-    match printed {
-        Written::Next(length) => length,
-        Written::Refused(_) => 0,
-    }
+    printer::print(output, bytes).unwrap_or(0)
 }
 
-// Reads on until the input ends or the buffer is full, and gives how many bytes the buffer begins with.
+// Reads on until the input ends or the buffer is full, and gives how many bytes the buffer begins with. No method of `Read` does: `read_exact` fails where the input ends, and `read_to_end` needs a heap.
 fn read_full<R: Read>(input: &mut R, buffer: &mut [u8]) -> io::Result<usize>
     ensures within { IfOk result (λ n. n ≤ length buffer.new) }
     ensures bytes { IfOk result (λ n. Consumes (R.remaining input.old) (R.remaining input.new) (take n buffer.new)) }

@@ -7,15 +7,13 @@ use Prim.Native.Nat.{ℕ, zero, suc}
 use lib.Dec.{eqb, ltb, leb}
 use lib.ListN.{length, drop}
 use borrow.Author.Tests.{eqb-false}
-use Rattle.std.specs.Prelude.{if◌then◌else◌}
+use Rattle.std.specs.Prelude.{Result, Ok, Err, if◌then◌else◌}
 use Rattle.choice.specs.Tests.{◌unless◌, refusal, ◌⨾◌, ok}
 use Rattle.numbers.specs.Coding.{most_of, read_number}
 use Rattle.numbers.specs.declared.Limit.{Limit}
-use Rattle.numbers.specs.declared.Refusal.{Refusal}
-use Rattle.numbers.specs.declared.Read.{Read}
-use Rattle.numbers.specs.declared.Read.TheVariants as read
+use Rattle.numbers.specs.declared.Number.{Number}
 use Rattle.numbers.proofs.CodingLaws.{refusals}
-use Rattle.forms.specs.Forms.{Outcome, got, refused, refused_with, Test, test_read, prepend, and_then, row, rows, FormRead, read_as, unread, unread_with, read_unless, whole, row_no, rows_no, as_read}
+use Rattle.forms.specs.Forms.{Outcome, got, refused, Test, test_read, prepend, and_then, row, rows, FormRead, read_as, unread, read_unless, whole, row_no, rows_no, as_read}
 use Rattle.forms.proofs.Outcomes.{refused-got}
 use Rattle.forms.proofs.Rooms.{unread-read}
 
@@ -25,11 +23,11 @@ Gives P test = (v : ℕ) → (test v ≡ 0 → ⊥) → P (test v)
 
 -- every refusal of an outcome has P
 abbrev pub Refuses : (ℕ → Type 0) → Outcome → Type 0
-Refuses P o = (r : Refusal) → o ≡ refused r → P r.no
+Refuses P o = (r : ℕ) → o ≡ refused r → P r
 
 -- every refusal of a form has P
 abbrev pub Unreads : {H : Type 0} → (ℕ → Type 0) → FormRead H → Type 0
-Unreads P f = (r : Refusal) → f ≡ unread r → P r.no
+Unreads P f = (r : ℕ) → f ≡ unread r → P r
 
 -- every refusal of each test of a row has P
 pub data All (P : ℕ → Type 0) : List Test → Type 0 where
@@ -91,23 +89,23 @@ module _ (P : ℕ → Type 0) where
   then-refuses (refused q) f a b = a
 
   -- a number that cannot be read, or does not pass
-  test-refuses : (test : Test) (x : Read) → ((q : Refusal) → x ≡ read.Refused q → P q.no) → Gives P test → Refuses P (test_read test x)
+  test-refuses : (test : Test) (x : Result Number ℕ) → ((q : ℕ) → x ≡ Err q → P q) → Gives P test → Refuses P (test_read test x)
   unfolding test_read
-  test-refuses test (read.Refused q) a g r e =
+  test-refuses test (Err q) a g r e =
       let p : q ≡ r = cc in
       rw (← p) (a q refl)
-  test-refuses test (read.Number v next) a g r e = go (eqb (test v) 0) refl r e
+  test-refuses test (Ok n) a g r e = go (eqb (test n.value) 0) refl r e
     where
-      go : (t : Bool) → eqb (test v) 0 ≡ t → Refuses P (if t then got (v ∷ []) next else refused_with (test v))
+      go : (t : Bool) → eqb (test n.value) 0 ≡ t → Refuses P (if t then got (n.value ∷ []) n.next else refused (test n.value))
       go true h r e = absurd (refused-got (sym e))
       go false h r e =
-          let p : ◌≡◌ {A = Refusal} (record { no = test v }) r = cc in
-          rw (← p) (g v (eqb-false (test v) 0 h))
+          let p : test n.value ≡ r = cc in
+          rw (← p) (g n.value (eqb-false (test n.value) 0 h))
 
   module _ (limit : Limit) (bytes : List ℕ) (eleven : P 11) (twelve : P 12) where
     -- a number
-    pub read-refuses : (at : ℕ) (q : Refusal) → read_number limit bytes at ≡ read.Refused q → P q.no
-    read-refuses at q e = ⊎_elim (λ (h : q.no ≡ 11). rw h eleven) (λ (h : q.no ≡ 12). rw h twelve) (refusals limit bytes at q e)
+    pub read-refuses : (at : ℕ) (q : ℕ) → read_number limit bytes at ≡ Err q → P q
+    read-refuses at q e = ⊎_elim (λ (h : q ≡ 11). rw h eleven) (λ (h : q ≡ 12). rw h twelve) (refusals limit bytes at q e)
 
     -- a row
     pub row-refuses : {tests : List Test} → All P tests → (at : ℕ) → Refuses P (row tests limit bytes at)
@@ -131,18 +129,18 @@ module _ (P : ℕ → Type 0) where
       rw (← t) (h q refl)
   whole-refuses bytes header (got vs next) p h r e = go (ltb next (length bytes)) r e
     where
-      go : (t : Bool) → Unreads P (if t then unread_with 13 else read_as header vs)
+      go : (t : Bool) → Unreads P (if t then unread 13 else read_as header vs)
       go false r e = absurd (unread-read (sym e))
       go true r e =
-          let q : ◌≡◌ {A = Refusal} (record { no = 13 }) r = cc in
+          let q : 13 ≡ r = cc in
           rw (← q) p
 
   -- a refusal, and then a form
   pub unless-refuses : {H : Type 0} (n : ℕ) (f : FormRead H) → ((n ≡ 0 → ⊥) → P n) → Unreads P f → Unreads P (read_unless n f)
   unless-refuses n f p h = go (eqb n 0) refl
     where
-      go : (t : Bool) → eqb n 0 ≡ t → Unreads P (if t then f else unread_with n)
+      go : (t : Bool) → eqb n 0 ≡ t → Unreads P (if t then f else unread n)
       go true z r e = h r e
       go false z r e =
-          let q : ◌≡◌ {A = Refusal} (record { no = n }) r = cc in
+          let q : n ≡ r = cc in
           rw (← q) (p (eqb-false n 0 z))

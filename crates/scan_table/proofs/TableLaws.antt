@@ -5,23 +5,20 @@ use mathlib.Core.Logic.{◌⊎◌, inl, inr, ⊎_elim, ⊎_map}
 use Prim.Native.Nat.{ℕ, ◌+◌, ◌-◌, ◌*◌, ◌^◌, ◌<◌, ◌≤◌}
 use native.Mathlib.Omega.{arith}
 use lib.Dec.{leb}
+use Rattle.std.specs.Prelude.{Result, Ok, Err}
 use lib.ListN.{length, drop, take, get_or, length-append}
 use lib.Seq.{sets, sets-eq, take_at}
 use borrow.Author.Tests.{le-ltb}
 use Rattle.sizes.specs.Sizes.{between, scans_in_range}
 use Rattle.numbers.specs.Coding.{read_number, form}
 use Rattle.numbers.specs.declared.Limit.TheVariants.{Table}
-use Rattle.numbers.specs.declared.Refusal.{Refusal}
-use Rattle.numbers.specs.declared.Read.{Read}
-use Rattle.numbers.specs.declared.Read.TheVariants as number
-use Rattle.numbers.specs.declared.Written.TheVariants as written
+use Rattle.numbers.specs.declared.Number.{Number}
 use Rattle.numbers.proofs.Puts.{put-refusals, put_refused, put_next, put-stays}
 use Rattle.numbers.proofs.CodingLaws.{Bytes, written-reads}
 use Rattle.forms.specs.Forms.{Test, rows, read_as, unread, whole, into_room, after_room, forms, row_no, rows_no}
 use Rattle.forms.proofs.FormLaws.{rows-reads, rows-forms, stands_one, stands-append, stands-whole}
 use Rattle.forms.proofs.Rooms as rooms
 use Rattle.forms.proofs.Rooms.{room-refusals, room-refused, room-filled, room-stays}
-use Rattle.scan_table.specs.declared.TableRead.TheVariants as table
 use Rattle.scan_table.specs.Table.{size_no, tag_no, shelf_no, device_no, time_no, scan_tests, whole_table, written_tests, fields_of, scan_at, after_size, read_table, table_answer, scans_in, table_no, table_form, table_written, after_table}
 use Rattle.scan_table.proofs.Testing.{each-scan, table-passes, rows_pass}
 use Rattle.scan_table.proofs.Tables.{table_got, table-sized, answer-scans, answer-refused}
@@ -63,7 +60,7 @@ table-reads-back fields e =
     let m = length (forms fields) in
     let p = table-passes written_tests fields e in
     let z : 0 + n ≡ n = omega arith in
-    let a : read_number Table (form s ++ forms fields) 0 ≡ number.Number s n = rw z at (written-reads Table s [] (forms fields) (size-within s p.ranged)) in
+    let a : read_number Table (form s ++ forms fields) 0 ≡ Ok (record { value = s; next = n }) = rw z at (written-reads Table s [] (forms fields) (size-within s p.ranged)) in
     let r = rw (append-nil (forms fields)) at (rows-reads s scan_tests Table fields p.scans p.records (form s) []) in
     table-sized (form s ++ forms fields) a p.ranged ∙ rw (r, length-append (form s) (forms fields), le-ltb (n + m) (n + m) (omega arith))
 
@@ -99,12 +96,14 @@ abbrev pub ReadRefusal : ℕ → Type 0
 ReadRefusal n = (n ≡ 1) ⊎ (n ≡ 3) ⊎ (n ≡ 10) ⊎ (n ≡ 11) ⊎ (n ≡ 12) ⊎ (n ≡ 13)
 
 -- the size, and then the scans
-size-refuses : (bytes : List ℕ) (a : Read) → ((r : Refusal) → a ≡ number.Refused r → ReadRefusal r.no) → Unreads ReadRefusal (after_size bytes a)
+size-refuses : (bytes : List ℕ) (a : Result Number ℕ) → ((r : ℕ) → a ≡ Err r → ReadRefusal r) → Unreads ReadRefusal (after_size bytes a)
 unfolding after_size size_no
-size-refuses bytes (number.Refused q) h r e =
+size-refuses bytes (Err q) h r e =
     let p : q ≡ r = cc in
     rw (← p) (h q refl)
-size-refuses bytes (number.Number s next) h r e =
+size-refuses bytes (Ok size) h r e =
+    let s = size.value in
+    let next = size.next in
     let three = inr (inl refl) in
     let ten = inr (inr (inl refl)) in
     let eleven = inr (inr (inr (inl refl))) in
@@ -114,7 +113,7 @@ size-refuses bytes (number.Number s next) h r e =
     (whole-refuses ReadRefusal bytes s (rows s scan_tests Table bytes next) (inr (inr (inr (inr (inr refl))))) scans) r e
 
 -- a table that is refused is refused so
-pub table-refusals : (bytes : List ℕ) (r : Refusal) → read_table bytes ≡ unread r → ReadRefusal r.no
+pub table-refusals : (bytes : List ℕ) (r : ℕ) → read_table bytes ≡ unread r → ReadRefusal r
 unfolding read_table
 table-refusals bytes r e =
     size-refuses bytes (read_number Table bytes 0) (read-refuses ReadRefusal Table bytes (inr (inr (inr (inl refl)))) (inr (inr (inr (inr (inl refl))))) 0) r e
@@ -131,17 +130,17 @@ table-no-gives fields h =
 
 module _ (fields d : List ℕ) where
   -- a table that is not written is refused so
-  pub write-refusals : (r : Refusal) → table_written fields d ≡ written.Refused r → WriteRefusal r.no
+  pub write-refusals : (r : ℕ) → table_written fields d ≡ Err r → WriteRefusal r
   write-refusals r e = ⊎_elim own room (put-refusals (table_no written_tests fields) (table_form fields) d 0 r e)
     where
-      own : (r.no ≡ table_no written_tests fields) × (table_no written_tests fields ≡ 0 → ⊥) → WriteRefusal r.no
+      own : (r ≡ table_no written_tests fields) × (table_no written_tests fields ≡ 0 → ⊥) → WriteRefusal r
       own (p, h) = rw p (table-no-gives fields h)
 
-      room : (r.no ≡ 8) × (table_no written_tests fields ≡ 0) × (length d < 0 + length (table_form fields)) → WriteRefusal r.no
+      room : (r ≡ 8) × (table_no written_tests fields ≡ 0) × (length d < 0 + length (table_form fields)) → WriteRefusal r
       room (p, z, l) = inr (inr (inr (inr p)))
 
   -- a refusal leaves the buffer as it was
-  pub write-refused : (r : Refusal) → table_written fields d ≡ written.Refused r → after_table fields d ≡ d
+  pub write-refused : (r : ℕ) → table_written fields d ≡ Err r → after_table fields d ≡ d
   write-refused r e = put_refused (table_no written_tests fields) (table_form fields) d 0 r e
 
   -- a place n as the answer: no number is refused, n is past the form, and the form stands at the start of the buffer
@@ -152,17 +151,17 @@ module _ (fields d : List ℕ) where
     pub buffer : after_table fields d ≡ sets d 0 (table_form fields)
 
   -- what a writer says by a next place
-  pub write-next : (n : ℕ) → table_written fields d ≡ written.Next n → Stored n
+  pub write-next : (n : ℕ) → table_written fields d ≡ Ok n → Stored n
   write-next n e =
       let s = put_next (table_no written_tests fields) (table_form fields) d 0 n e in
       record { passes = s.passes; place = omega (arith, s.place); room = s.room; buffer = s.buffer }
 
   -- bytes from the next place on stay as they were
-  pub write-stays : (n i : ℕ) → table_written fields d ≡ written.Next n → n ≤ i → get_or (after_table fields d) i 0 ≡ get_or d i 0
+  pub write-stays : (n i : ℕ) → table_written fields d ≡ Ok n → n ≤ i → get_or (after_table fields d) i 0 ≡ get_or d i 0
   write-stays n i e h = put-stays (table_no written_tests fields) (table_form fields) d 0 n i e (inr h)
 
   -- a table that is written into a buffer reads back from the bytes up to the next place
-  pub write-then-read : (n : ℕ) → table_written fields d ≡ written.Next n → read_table (take n (after_table fields d)) ≡ read_as (scans_in fields) fields
+  pub write-then-read : (n : ℕ) → table_written fields d ≡ Ok n → read_table (take n (after_table fields d)) ≡ read_as (scans_in fields) fields
   write-then-read n e =
       let s = write-next n e in
       let f = table_form fields in
@@ -181,17 +180,17 @@ module _ (bytes room : List ℕ) where
     pub short : length room < scans * 4
 
   -- a table that is not read into room is refused by its form, or with 8, after all else, where the room is smaller than its scans
-  pub read-refusals : (r : Refusal) → table_answer (into_room (read_table bytes) room) ≡ table.Refused r → (read_table bytes ≡ unread r) ⊎ ((r.no ≡ 8) × Narrow)
+  pub read-refusals : (r : ℕ) → table_answer (into_room (read_table bytes) room) ≡ Err r → (read_table bytes ≡ unread r) ⊎ ((r ≡ 8) × Narrow)
   read-refusals r e = ⊎_map (λ q. q) small (room-refusals (read_table bytes) room r (answer-refused (into_room (read_table bytes) room) e))
     where
-      small : (r.no ≡ 8) × rooms.Narrow (read_table bytes) room → (r.no ≡ 8) × Narrow
+      small : (r ≡ 8) × rooms.Narrow (read_table bytes) room → (r ≡ 8) × Narrow
       small (p, n) =
           let c = table-count bytes n.accepted in
           let s = n.short in
           (p, record { scans = n.header; fields = n.numbers; accepted = n.accepted; short = omega arith })
 
   -- a refusal leaves the room as it was
-  pub read-refused : (r : Refusal) → table_answer (into_room (read_table bytes) room) ≡ table.Refused r → after_room (read_table bytes) room ≡ room
+  pub read-refused : (r : ℕ) → table_answer (into_room (read_table bytes) room) ≡ Err r → after_room (read_table bytes) room ≡ room
   read-refused r e = room-refused (read_table bytes) room r (answer-refused (into_room (read_table bytes) room) e)
 
   -- a number n as the answer: the form is accepted and has n scans, which have room, and their numbers fill its first places
@@ -202,7 +201,7 @@ module _ (bytes room : List ℕ) where
     pub filled : after_room (read_table bytes) room ≡ sets room 0 fields
 
   -- what a reader says by a number of scans
-  pub read-scans : (n : ℕ) → table_answer (into_room (read_table bytes) room) ≡ table.Scans n → Filled n
+  pub read-scans : (n : ℕ) → table_answer (into_room (read_table bytes) room) ≡ Ok n → Filled n
   read-scans n e =
       let k = answer-scans (into_room (read_table bytes) room) e in
       let f = room-filled (read_table bytes) room n k.fields k.was in
@@ -211,7 +210,7 @@ module _ (bytes room : List ℕ) where
       record { fields = k.fields; accepted = f.accepted; fits = omega arith; filled = f.filled }
 
   -- places past those of the scans stay as they were
-  pub read_stays : (n i : ℕ) → table_answer (into_room (read_table bytes) room) ≡ table.Scans n → n * 4 ≤ i → get_or (after_room (read_table bytes) room) i 0 ≡ get_or room i 0
+  pub read_stays : (n i : ℕ) → table_answer (into_room (read_table bytes) room) ≡ Ok n → n * 4 ≤ i → get_or (after_room (read_table bytes) room) i 0 ≡ get_or room i 0
   read_stays n i e h =
       let k = answer-scans (into_room (read_table bytes) room) e in
       let f = room-filled (read_table bytes) room n k.fields k.was in

@@ -2,38 +2,24 @@
 use mathlib.Core.Path.{◌≡◌, refl, sym, ap, ◌∙◌}
 use mathlib.Core.Bool.{Bool, true, false}
 use mathlib.Core.List.{List, [], ◌∷◌, ◌++◌}
-use Prim.Native.Nat.{ℕ, zero, suc, ◌+◌, ◌-◌, ◌*◌, ◌/◌, ◌%◌, ◌<◌, ◌≤◌}
+use Prim.Native.Nat.{ℕ, zero, suc, ◌+◌, ◌*◌, ◌%◌, ◌<◌, ◌≤◌}
 use native.Mathlib.Omega.{arith}
 use lib.Dec.{eqb, leb}
-use lib.ListN.{length, drop, get_or}
+use lib.ListN.{length, drop, get_or, drop_of_length-le}
 use lib.Seq.{drop-cons}
-use borrow.Author.Tests.{eqb-true, eq-eqb, ne_eqb}
+use borrow.Author.Tests.{eqb-true, eq-eqb}
 use Rattle.choice.specs.Tests.{◌unless◌, refusal, ◌⨾◌, ok}
-use Rattle.choice.proofs.Tests.{and_l, and_r, test-passed, rest-passed, no-refusal, rest-unrefused, stands}
+use Rattle.choice.proofs.Tests.{and_l, and_r, test-passed, rest-passed, no-refusal, rest-unrefused}
 use Rattle.sizes.specs.Sizes.{scans_in_range}
 use Rattle.numbers.specs.Coding.{most_of, limit_no}
 use Rattle.numbers.specs.declared.Limit.TheVariants.{Table}
 use Rattle.forms.specs.Forms.{Test, row_no, rows_no, as_read}
 use Rattle.scan_table.specs.declared.Scan.{Scan}
+use Rattle.scan_table.specs.declared.Tests.{Tests}
+use Rattle.scan_table.specs.declared.Tests.TheVariants.{Reading, Writing}
 use Rattle.scan_table.specs.Table.{fields_of, scan_at, scans_in, whole_table, table_no, tests_of}
 
 -- ---- one scan
-
--- a scan is its four numbers
-pub scan-of : (fields : List ℕ) (i : ℕ) {t s d m : ℕ} → t ≡ get_or fields (i * 4) 0 → s ≡ get_or fields (i * 4 + 1) 0 → d ≡ get_or fields (i * 4 + 2) 0 → m ≡ get_or fields (i * 4 + 3) 0
-    → ◌≡◌ {A = Scan} (record { tag = t; shelf = s; device = d; time = m }) (scan_at fields i)
-unfolding scan_at
-scan-of fields i e f g h = cc
-
--- a refusal with none after it
-alone : (n : ℕ) → (refusal n ⨾ ok) ≡ n
-alone zero = refl
-alone (suc n) = refl
-
--- the first refusal of four numbers
-pub four-no : (t u v w : Test) (a b c d : ℕ) → row_no (t ∷ u ∷ v ∷ w ∷ []) (a ∷ b ∷ c ∷ d ∷ []) ≡ (refusal (t a) ⨾ refusal (u b) ⨾ refusal (v c) ⨾ w d)
-unfolding row_no
-four-no t u v w a b c d = ap (λ (x : ℕ). refusal (t a) ⨾ refusal (u b) ⨾ refusal (v c) ⨾ x) (alone (w d))
 
 -- a number is tested as the reader would: by the coding's limit, and then by its own test
 pub as_read_lem : (test : Test) (v : ℕ) → as_read Table test v ≡ (refusal (limit_no Table v) ⨾ test v)
@@ -44,19 +30,10 @@ as_read_lem test v = go (leb v (most_of Table))
     go true = refl
     go false = refl
 
--- the same, a step of the code at a time
-pub number-no : (test : Test) (v : ℕ) {k t n : ℕ} → k ≡ limit_no Table v → t ≡ test v → n ≡ (refusal k ⨾ t) → n ≡ as_read Table test v
-number-no test v e f g = cc (as_read_lem test v)
-
--- the first refusal of four numbers, from the last one on
-pub first-of-four : (t u v w : Test) (a b c d : ℕ) {k l m n three two one : ℕ} → k ≡ t a → l ≡ u b → m ≡ v c → n ≡ w d
-    → three ≡ (refusal m ⨾ n) → two ≡ (refusal l ⨾ three) → one ≡ (refusal k ⨾ two) → one ≡ row_no (t ∷ u ∷ v ∷ w ∷ []) (a ∷ b ∷ c ∷ d ∷ [])
-first-of-four t u v w a b c d e f g h i j k = cc (four-no t u v w a b c d)
-
 -- there are four tests of a scan
-pub four-tests : (written : Bool) → length (tests_of written) ≡ 4
-four-tests true = refl
-four-tests false = refl
+pub four-tests : (tests : Tests) → length (tests_of tests) ≡ 4
+four-tests Writing = refl
+four-tests Reading = refl
 
 -- ---- the scans of a table
 
@@ -84,9 +61,21 @@ row-alone [] vs rest h = refl
 row-alone (t ∷ ts) [] rest h = absurd (omega arith)
 row-alone (t ∷ ts) (v ∷ vs) rest h = ap (λ (x : ℕ). refusal (t v) ⨾ x) (row-alone ts vs rest (omega arith))
 
--- the first refusal of the scans from a place on
-abbrev pub rest_no : List Test → List ℕ → ℕ → ℕ
-rest_no tests fields n = rows_no ((length fields - n) / 4) tests (drop n fields)
+module _ (tests : List Test) (four : length tests ≡ 4) where
+  -- the first refusal of the numbers of a scan and those of the scans after it
+  rows-of : (s : Scan) (rest : List ℕ) → rows_no (scans_in (fields_of s ++ rest)) tests (fields_of s ++ rest) ≡ (refusal (row_no tests (fields_of s)) ⨾ rows_no (scans_in rest) tests rest)
+  unfolding rows_no
+  rows-of s rest =
+      let few : length tests ≤ 4 = omega (arith, four) in
+      let q : scans_in (fields_of s ++ rest) ≡ suc (scans_in rest) = omega arith in
+      rw (q, row-alone tests (fields_of s) rest few, four)
+
+  -- the same, by what four numbers are split off
+  pub rows-chunk : (x rest all : List ℕ) → all ≡ x ++ rest → length x ≡ 4
+      → rows_no (scans_in all) tests all ≡ (refusal (row_no tests (fields_of (scan_from x 0))) ⨾ rows_no (scans_in rest) tests rest)
+  rows-chunk x rest all p e =
+      let q : x ≡ fields_of (scan_from x 0) = scan-split x 0 (omega arith) ∙ (let h : length x ≤ 4 = omega arith in rw (drop_of_length-le x h)) in
+      ap (λ (l : List ℕ). rows_no (scans_in l) tests l) (p ∙ ap (λ (l : List ℕ). l ++ rest) q) ∙ rows-of (scan_from x 0) rest
 
 module _ (tests : List Test) (four : length tests ≡ 4) (fields : List ℕ) where
   -- the first refusal of rows: that of the first scan, or of the scans after it
@@ -98,26 +87,6 @@ module _ (tests : List Test) (four : length tests ≡ 4) (fields : List ℕ) whe
       let rest = drop (n + 4) fields in
       let few : length tests ≤ 4 = omega (arith, four) in
       rw (scan-split fields n h, row-alone tests (fields_of s) rest few, four)
-
-  -- a scan that passes is one less to test
-  pub scans-next : (n : ℕ) → n < length fields → n % 4 ≡ 0 → length fields % 4 ≡ 0 → row_no tests (fields_of (scan_from fields n)) ≡ 0 → rest_no tests fields n ≡ rest_no tests fields (n + 4)
-  scans-next n h a l e =
-      let q : (length fields - n) / 4 ≡ suc ((length fields - (n + 4)) / 4) = omega arith in
-      rw q (rows-scan ((length fields - (n + 4)) / 4) n (omega arith) ∙ rw e)
-
-  -- the first refusal of a scan is the table's
-  pub scans-refused : (n : ℕ) → n < length fields → n % 4 ≡ 0 → length fields % 4 ≡ 0 → (row_no tests (fields_of (scan_from fields n)) ≡ 0 → ⊥) → rest_no tests fields n ≡ row_no tests (fields_of (scan_from fields n))
-  scans-refused n h a l e =
-      let m = (length fields - (n + 4)) / 4 in
-      let q : (length fields - n) / 4 ≡ suc m = omega arith in
-      rw q (rows-scan m n (omega arith) ∙ stands (row_no tests (fields_of (scan_from fields n))) (rows_no m tests (drop (n + 4) fields)) e)
-
-  -- none is left to test
-  pub scans-none : (n : ℕ) → length fields ≤ n → rest_no tests fields n ≡ 0
-  unfolding rows_no
-  scans-none n h =
-      let q : (length fields - n) / 4 ≡ 0 = omega arith in
-      rw q
 
   -- where rows pass, each of their scans does
   pub each-scan : (n i k : ℕ) → (i + n) * 4 ≤ length fields → rows_no n tests (drop (i * 4) fields) ≡ 0 → k < n → row_no tests (fields_of (scan_at fields (i + k))) ≡ 0
@@ -143,17 +112,7 @@ pub record Passes (tests : List Test) (fields : List ℕ) : Type 0 where
   pub records : rows_no (scans_in fields) tests fields ≡ 0
 
 module _ (tests : List Test) (fields : List ℕ) where
-  -- its numbers are not whole scans
-  pub table-uneven : (length fields % 4 ≡ 0 → ⊥) → table_no tests fields ≡ 1
-  unfolding table_no whole_table
-  table-uneven h = rw (ne_eqb (length fields % 4) 0 h)
-
-  -- it has too many scans, or none
-  pub table-unsized : length fields % 4 ≡ 0 → scans_in_range (scans_in fields) ≡ false → table_no tests fields ≡ 1
-  unfolding table_no whole_table
-  table-unsized e h = rw (eq-eqb (length fields % 4) 0 e, h)
-
-  -- it is as its scans are
+  -- of whole scans in range it is as its scans are
   pub table-whole : length fields % 4 ≡ 0 → scans_in_range (scans_in fields) ≡ true → table_no tests fields ≡ rows_no (scans_in fields) tests fields
   unfolding table_no whole_table
   table-whole e h = rw (eq-eqb (length fields % 4) 0 e, h)

@@ -6,10 +6,9 @@ use Prim.Native.Nat.{ℕ, ◌+◌, ◌<◌, ◌≤◌}
 use native.Mathlib.Omega.{arith}
 use lib.ListN.{length, length-append}
 use Rattle.sizes.specs.Sizes.{scans_in_range}
-use Rattle.numbers.specs.Coding.{most_of, form, refused_write}
+use Rattle.numbers.specs.Coding.{most_of, form}
 use Rattle.numbers.specs.declared.Limit.TheVariants.{Table}
-use Rattle.numbers.specs.declared.Written.{Written}
-use Rattle.numbers.specs.declared.Written.TheVariants as written
+use Rattle.std.specs.Prelude.{Result, Ok, Err}
 use Rattle.numbers.proofs.Ends.{Ends, ends-append}
 use Rattle.numbers.proofs.Puts.{Puts, refuses, no_room, put-wrote}
 use Rattle.forms.specs.Forms.{forms}
@@ -28,19 +27,19 @@ size-within s h = omega (arith, scans-ranged s h)
 
 module _ (fields d : List ℕ) where
   -- writing the table into d answers w and leaves e; w has its number
-  abbrev pub Writes : Written → List ℕ → Type 0
+  abbrev pub Writes : Result ℕ ℕ → List ℕ → Type 0
   Writes w e = Puts (table_no written_tests fields) (table_form fields) d 0 w e
 
   -- a number is refused
-  pub table-refused : (table_no written_tests fields ≡ 0 → ⊥) → Writes (refused_write (table_no written_tests fields)) d
+  pub table-refused : (table_no written_tests fields ≡ 0 → ⊥) → Writes (Err (table_no written_tests fields)) d
   table-refused h = refuses (table_no written_tests fields) (table_form fields) d 0 h
 
   -- the form has no room
-  pub table-short : table_no written_tests fields ≡ 0 → length d < length (table_form fields) → Writes (refused_write 8) d
+  pub table-short : table_no written_tests fields ≡ 0 → length d < length (table_form fields) → Writes (Err 8) d
   table-short e h = no_room (table_no written_tests fields) (table_form fields) d 0 e (omega arith)
 
   -- the size is put, and then the numbers after it
   pub wrote-both : {m n : ℕ} {b e : List ℕ} → table_no written_tests fields ≡ 0 → length (table_form fields) ≤ length d
-      → Ends (form (scans_in fields)) d 0 m b → Ends (forms fields) b m n e → Writes (written.Next n) e
+      → Ends (form (scans_in fields)) d 0 m b → Ends (forms fields) b m n e → Writes (Ok n) e
   unfolding table_form forms
   wrote-both z h p q = put-wrote (table_no written_tests fields) (table_form fields) d 0 z (omega arith) (ends-append (form (scans_in fields)) (forms fields) d 0 p q)

@@ -1,16 +1,14 @@
 -- The scan table of document 01, "Clock and shelf" and "Written forms".
-use Rattle.std.specs.Prelude.{Bool, true, false, ◌&&◌, List, [], ◌∷◌, map, ℕ, ◌+◌, ◌-◌, ◌*◌, ◌/◌, ◌%◌, ◌^◌, eqb, leb, length, get_or}
+use Rattle.std.specs.Prelude.{Bool, ◌&&◌, Result, Ok, Err, List, [], ◌∷◌, map, ℕ, ◌+◌, ◌-◌, ◌*◌, ◌/◌, ◌%◌, ◌^◌, eqb, leb, length, get_or}
 use Rattle.choice.specs.Tests.{◌unless◌, ◌⨾◌, ok}
 use Rattle.sizes.specs.Sizes.{between, scans_in_range}
 use Rattle.numbers.specs.Coding.{read_number, put_no, put_answer, after_put}
 use Rattle.numbers.specs.declared.Limit.TheVariants.{Table}
-use Rattle.numbers.specs.declared.Read.{Read}
-use Rattle.numbers.specs.declared.Read.TheVariants as read
-use Rattle.numbers.specs.declared.Written.{Written}
+use Rattle.numbers.specs.declared.Number.{Number}
 use Rattle.forms.specs.Forms.{Test, rows, FormRead, read_as, unread, read_unless, whole, forms, rows_no, as_read}
 use Rattle.scan_table.specs.declared.Scan.{Scan}
-use Rattle.scan_table.specs.declared.TableRead.{TableRead}
-use Rattle.scan_table.specs.declared.TableRead.TheVariants as table
+use Rattle.scan_table.specs.declared.Tests.{Tests}
+use Rattle.scan_table.specs.declared.Tests.TheVariants.{Reading, Writing}
 
 -- ---- the ranges
 
@@ -69,19 +67,19 @@ table_no tests fields =
 -- ---- reading
 
 -- S is tested at once; then per record tag, shelf, device, time, each range tested when read; then the end
-unfoldable pub after_size : List ℕ → Read → FormRead ℕ
-after_size bytes (read.Number s next) =
-    read_unless (size_no s) (whole bytes s (rows s scan_tests Table bytes next))
-after_size bytes (read.Refused r) = unread r
+unfoldable pub after_size : List ℕ → Result Number ℕ → FormRead ℕ
+after_size bytes (Ok s) =
+    read_unless (size_no s.value) (whole bytes s.value (rows s.value scan_tests Table bytes s.next))
+after_size bytes (Err n) = unread n
 
 -- what reading a table gives: S and the numbers of its records, or a refusal
 unfoldable pub read_table : List ℕ → FormRead ℕ
 read_table bytes = after_size bytes (read_number Table bytes 0)
 
 -- what it answers: S, or the refusal
-unfoldable pub table_answer : FormRead ℕ → TableRead
-table_answer (read_as scans fields) = table.Scans scans
-table_answer (unread r) = table.Refused r
+unfoldable pub table_answer : FormRead ℕ → Result ℕ ℕ
+table_answer (read_as scans fields) = Ok scans
+table_answer (unread n) = Err n
 
 -- ---- writing
 
@@ -89,10 +87,10 @@ table_answer (unread r) = table.Refused r
 abbrev pub written_tests : List Test
 written_tests = map (as_read Table) scan_tests
 
--- the tests of one record: where it is to be written, and where it has been read
-abbrev pub tests_of : Bool → List Test
-tests_of true = written_tests
-tests_of false = scan_tests
+-- the tests of one record: of a table that is to be written, and of one that has been read
+abbrev pub tests_of : Tests → List Test
+tests_of Writing = written_tests
+tests_of Reading = scan_tests
 
 -- the written form
 unfoldable pub table_form : List ℕ → List ℕ
@@ -102,20 +100,15 @@ table_form fields = forms (scans_in fields ∷ fields)
 abbrev pub table_written_no : List ℕ → List ℕ → ℕ
 table_written_no fields buffer = put_no (table_no written_tests fields) (table_form fields) buffer 0
 
-abbrev pub table_written : List ℕ → List ℕ → Written
+abbrev pub table_written : List ℕ → List ℕ → Result ℕ ℕ
 table_written fields buffer = put_answer (table_no written_tests fields) (table_form fields) buffer 0
 
 abbrev pub after_table : List ℕ → List ℕ → List ℕ
 after_table fields buffer = after_put (table_no written_tests fields) (table_form fields) buffer 0
 
--- ---- an answer as numbers
-
--- document 01's number of an answer: 0, or the refusal's
-abbrev pub table_read_no : TableRead → ℕ
-table_read_no (table.Scans n) = 0
-table_read_no (table.Refused r) = r.no
+-- ---- an answer as a number
 
 -- the number of scans that an answer gives, or what stood there before
-abbrev pub table_scans : TableRead → ℕ → ℕ
-table_scans (table.Scans n) old = n
-table_scans (table.Refused r) old = old
+abbrev pub table_scans : Result ℕ ℕ → ℕ → ℕ
+table_scans (Ok n) old = n
+table_scans (Err r) old = old

@@ -1,20 +1,20 @@
 // The scan table's written form: S, then for each of S scans tag, shelf, device and time.
-// In lent room a scan is four numbers in a row: tag, shelf, device, time.
+// In lent room a scan is four numbers in a row, as C lends it: tag, shelf, device, time. Numbers that are no whole scans are refused (`check_fields`).
 #![tactic(auto)]
 
-ghost use Rattle.std.specs.Prelude.{◌≡◌, ◌%◌, length, get_or};
-ghost use Rattle.numbers.specs.Coding.{limit_no, written_no};
+ghost use Rattle.std.specs.Prelude.{◌≡◌, get_or};
+ghost use Rattle.choice.specs.Refusals.{numbered, no};
+ghost use Rattle.numbers.specs.Coding.{limit_no};
 ghost use Rattle.numbers.specs.declared.Limit.TheVariants.{Table};
 ghost use Rattle.forms.specs.Forms.{place_of, row, rows, row_no, rows_no, form_no, room_no, into_room, after_room};
-ghost use Rattle.scan_table.specs.Table.{tag_no, shelf_no, device_no, time_no, scan_tests, written_tests, tests_of, fields_of, scan_at, scans_in, table_no, read_table, table_answer, table_written, after_table, table_written_no, table_read_no};
-ghost use Rattle.scan_table.specs.Steps.{read_from, value_of, tested_with};
+ghost use Rattle.scan_table.specs.Table.{tag_no, shelf_no, device_no, time_no, scan_tests, written_tests, tests_of, fields_of, scan_at, scans_in, table_no, read_table, table_answer, table_written, after_table, table_written_no};
 
-use forms::Place;
-use numbers::{Limit, Read, Refusal, Written};
+use choice::refusals::{Refusal, first_refusal, refuse_unless};
+use numbers::Limit;
 use sets::ScanId;
 
 // One scan. Its ranges: tag to 2^32 - 1, shelf to 65,535, device 1 to 255, time to 2^48 - 1.
-#[derive(Clone, Copy)]
+#[derive(Clone, Copy, Debug, PartialEq, Eq, Hash)]
 pub struct Scan {
     pub tag: u64,
     pub shelf: u64,
@@ -22,310 +22,202 @@ pub struct Scan {
     pub time: u64,
 }
 
-// What reading a table answers: how many scans it has, or a refusal.
-#[derive(Clone, Copy)]
-pub enum TableRead {
-    Scans(usize),
-    Refused(Refusal),
+// Which tests the numbers of a table go through: those of a table that has been read, or those of one that is to be written.
+#[derive(Clone, Copy, Debug, PartialEq, Eq, Hash)]
+pub enum Tests {
+    Reading,
+    Writing,
 }
 
-// ---- the tests of one scan
+// ---- the tests of one scan: a line for each field, whose limit, refusal and definition are its own
 
-fn tag_no(tag: u64) -> u8
-    ensures { result ≡ tag_no tag }
+#[tactic(auto, unfolding(crate::specs::Table::tag_no))]
+fn check_tag(tag: u64) -> Result<(), Refusal>
+    ensures { no result ≡ tag_no tag }
 {
-    if 4_294_967_295 < tag { 3 } else { 0 }
+    refuse_unless(tag <= 4_294_967_295, Refusal::NotThere)
 }
 
-fn shelf_no(shelf: u64) -> u8
-    ensures { result ≡ shelf_no shelf }
+#[tactic(auto, unfolding(crate::specs::Table::shelf_no))]
+fn check_shelf(shelf: u64) -> Result<(), Refusal>
+    ensures { no result ≡ shelf_no shelf }
 {
-    if 65_535 < shelf { 3 } else { 0 }
+    refuse_unless(shelf <= 65_535, Refusal::NotThere)
 }
 
-fn device_no(device: u64) -> u8
-    ensures { result ≡ device_no device }
+#[tactic(auto, unfolding(crate::specs::Table::device_no))]
+fn check_device(device: u64) -> Result<(), Refusal>
+    ensures { no result ≡ device_no device }
 {
-    if device == 0 {
-        return 10;
-    }
-    if 255 < device { 10 } else { 0 }
+    refuse_unless((1..=255).contains(&device), Refusal::NoSuchDevice)
 }
 
-fn time_no(time: u64) -> u8
-    ensures { result ≡ time_no time }
+#[tactic(auto, unfolding(crate::specs::Table::time_no))]
+fn check_time(time: u64) -> Result<(), Refusal>
+    ensures { no result ≡ time_no time }
 {
-    if 281_474_976_710_655 < time { 12 } else { 0 }
+    refuse_unless(time <= 281_474_976_710_655, Refusal::NotShortest)
 }
 
 // 12 where a number is too large for the coding.
-fn coding_no(value: u64) -> u8
-    ensures { result ≡ limit_no Table value }
+#[tactic(auto, unfolding(numbers::specs::Coding::limit_no))]
+fn check_coding(value: u64) -> Result<(), Refusal>
+    ensures { no result ≡ limit_no Table value }
 {
-    if Limit::Table.most() < value { 12 } else { 0 }
+    refuse_unless(value <= Limit::Table.most(), Refusal::NotShortest)
 }
 
 impl Scan {
-    // The first field out of its range: its refusal, or 0.
-    pub fn no(self) -> u8
-        ensures { result ≡ row_no scan_tests (fields_of self) }
+    // The first field out of its range.
+    #[tactic(auto, unfolding(forms::specs::Forms::row_no))]
+    pub fn check(self) -> Result<(), Refusal>
+        ensures { no result ≡ row_no scan_tests (fields_of self) }
     {
-        let tag = tag_no(self.tag);
-        if tag != 0 {
-            return tag;
-        }
-        let shelf = shelf_no(self.shelf);
-        if shelf != 0 {
-            return shelf;
-        }
-        let device = device_no(self.device);
-        if device != 0 {
-            return device;
-        }
-        time_no(self.time)
+        check_tag(self.tag)?;
+        check_shelf(self.shelf)?;
+        check_device(self.device)?;
+        check_time(self.time)
     }
 
     // The same, tested as the reader would: a number too large for the coding gives 12.
-    fn written_no(self) -> u8
-        ensures { result ≡ row_no written_tests (fields_of self) }
+    #[tactic(auto, using(crate::proofs::Testing::as_read_lem), unfolding(forms::specs::Forms::row_no))]
+    fn check_written(self) -> Result<(), Refusal>
+        ensures { no result ≡ row_no written_tests (fields_of self) }
     {
-        let tag = choice::first_no(coding_no(self.tag), tag_no(self.tag));
-        let shelf = choice::first_no(coding_no(self.shelf), shelf_no(self.shelf));
-        let device = choice::first_no(coding_no(self.device), device_no(self.device));
-        let time = choice::first_no(coding_no(self.time), time_no(self.time));
-        choice::first_no(tag, choice::first_no(shelf, choice::first_no(device, time)))
+        first_refusal(check_coding(self.tag), check_tag(self.tag))?;
+        first_refusal(check_coding(self.shelf), check_shelf(self.shelf))?;
+        first_refusal(check_coding(self.device), check_device(self.device))?;
+        first_refusal(check_coding(self.time), check_time(self.time))
     }
+}
 
-    // The one or the other: `written` where the scan is to be written.
-    fn tested_no(self, written: bool) -> u8
-        ensures { result ≡ row_no (tests_of written) (fields_of self) }
+impl Tests {
+    fn check(self, scan: Scan) -> Result<(), Refusal>
+        ensures { no result ≡ row_no (tests_of self) (fields_of scan) }
     {
-        if written {
-            self.written_no()
-        } else {
-            self.no()
+        match self {
+            Tests::Reading => scan.check(),
+            Tests::Writing => scan.check_written(),
         }
     }
 }
 
-// A number of a table, 0 past its end.
+// A number of a table, 0 past its end: one line of the library's `get`, as `byte_at` of `layouts` is of bytes.
 fn number_at(fields: &[u64], place: usize) -> u64
     ensures { result ≡ get_or fields.now place 0 }
 {
-    if place < fields.len() {
-        return fields[place];
-    }
-    0
-}
-
-// A scan of a table's numbers, number by number, as it may be past their end.
-fn scan_past(fields: &[u64], scan: ScanId) -> Scan
-    ensures { result ≡ scan_at fields.now scan.0 }
-{
-    let first = scan.0 as usize * 4;
-    let tag = number_at(fields, first);
-    let shelf = number_at(fields, first + 1);
-    let device = number_at(fields, first + 2);
-    let time = number_at(fields, first + 3);
-    Scan {
-        tag,
-        shelf,
-        device,
-        time,
-    }
+    fields.get(place).copied().unwrap_or(0)
 }
 
 // A scan of a table's numbers; past their end its numbers are 0.
+#[tactic(auto, unfolding(crate::specs::Table::scan_at))]
 pub fn scan_at(fields: &[u64], scan: ScanId) -> Scan
     ensures { result ≡ scan_at fields.now scan.0 }
 {
     let first = scan.0 as usize * 4;
-    if first + 3 < fields.len() {
-        return Scan {
-            tag: fields[first],
-            shelf: fields[first + 1],
-            device: fields[first + 2],
-            time: fields[first + 3],
-        };
+    Scan {
+        tag: number_at(fields, first),
+        shelf: number_at(fields, first + 1),
+        device: number_at(fields, first + 2),
+        time: number_at(fields, first + 3),
     }
-    scan_past(fields, scan)
 }
 
 // The first refusal of whole scans, four numbers at a time.
-fn scans_no(fields: &[u64], written: bool) -> u8
-    requires { length fields.now % 4 ≡ 0 }
-    ensures { result ≡ rows_no (scans_in fields.now) (tests_of written) fields.now }
+fn check_records(fields: &[u64], tests: Tests) -> Result<(), Refusal>
+    ensures { no result ≡ rows_no (scans_in fields.now) (tests_of tests) fields.now }
 {
-    let mut at: usize = 0;
-    while at < fields.len() {
-        let scan = Scan {
-            tag: fields[at],
-            shelf: fields[at + 1],
-            device: fields[at + 2],
-            time: fields[at + 3],
-        };
-        let no = scan.tested_no(written);
-        if no != 0 {
-            return no;
-        }
-        at += 4;
+    for four in fields.chunks_exact(4) {
+        tests.check(Scan {
+            tag: four[0],
+            shelf: four[1],
+            device: four[2],
+            time: four[3],
+        })?;
     }
-    0
+    Ok(())
 }
 
 // The first refusal of a table's numbers; where they are to be written, tested as the reader would.
-pub fn table_no(fields: &[u64], written: bool) -> u8
-    ensures { result ≡ table_no (tests_of written) fields.now }
+#[tactic(auto, unfolding(crate::specs::Table::table_no, crate::specs::Table::whole_table))]
+pub fn check_fields(fields: &[u64], tests: Tests) -> Result<(), Refusal>
+    ensures { no result ≡ table_no (tests_of tests) fields.now }
 {
-    if fields.len() % 4 != 0 {
-        return 1;
-    }
-    if !sizes::scans_in_range((fields.len() / 4) as u64) {
-        return 1;
-    }
-    scans_no(fields, written)
+    let whole = fields.len() % 4 == 0 && sizes::scans_in_range((fields.len() / 4) as u64);
+    refuse_unless(whole, Refusal::OutOfRange)?;
+    check_records(fields, tests)
 }
 
 // ---- reading
 
-// The number at a place; a refusal that came before stays.
-fn read_from(bytes: &[u8], place: Place) -> Read
-    ensures { result ≡ read_from bytes.now place }
-{
-    match place {
-        Place::Next(at) => numbers::read_number(bytes, at, Limit::Table),
-        Place::Refused(refusal) => Read::Refused(refusal),
-    }
-}
-
-fn value_of(read: Read) -> u64
-    ensures { result ≡ value_of read }
-{
-    match read {
-        Read::Number { value, next: _ } => value,
-        Read::Refused(_) => 0,
-    }
-}
-
-// The place after a number whose test gave `no`.
-fn tested(read: Read, no: u8) -> Place
-    ensures { result ≡ tested_with read no }
-{
-    match read {
-        Read::Number { value: _, next } => {
-            if no == 0 {
-                Place::Next(next)
-            } else {
-                Place::Refused(Refusal { no })
-            }
-        }
-        Read::Refused(refusal) => Place::Refused(refusal),
-    }
-}
-
 // One record: tag, shelf, device, time.
-fn check_scan(bytes: &[u8], at: usize) -> Place
-    ensures { result ≡ place_of (row scan_tests Table bytes.now at) }
+#[tactic(auto, using(crate::proofs::Checking::place_scan))]
+fn check_scan(bytes: &[u8], at: usize) -> Result<usize, Refusal>
+    ensures { numbered result ≡ place_of (row scan_tests Table bytes.now at) }
 {
-    let tag = read_from(bytes, Place::Next(at));
-    let after_tag = tested(tag, tag_no(value_of(tag)));
-    let shelf = read_from(bytes, after_tag);
-    let after_shelf = tested(shelf, shelf_no(value_of(shelf)));
-    let device = read_from(bytes, after_shelf);
-    let after_device = tested(device, device_no(value_of(device)));
-    let time = read_from(bytes, after_device);
-    tested(time, time_no(value_of(time)))
+    let tag = numbers::read_number(bytes, at, Limit::Table)?;
+    check_tag(tag.value)?;
+    let shelf = numbers::read_number(bytes, tag.next, Limit::Table)?;
+    check_shelf(shelf.value)?;
+    let device = numbers::read_number(bytes, shelf.next, Limit::Table)?;
+    check_device(device.value)?;
+    let time = numbers::read_number(bytes, device.next, Limit::Table)?;
+    check_time(time.value)?;
+    Ok(time.next)
 }
 
 // So many records.
-fn check_scans(bytes: &[u8], at: usize, scans: usize) -> Place
-    ensures { result ≡ place_of (rows scans scan_tests Table bytes.now at) }
+fn check_scans(bytes: &[u8], at: usize, scans: usize) -> Result<usize, Refusal>
+    ensures { numbered result ≡ place_of (rows scans scan_tests Table bytes.now at) }
 {
     let mut next = at;
-    let mut i: usize = 0;
-    while i < scans {
-        let place = check_scan(bytes, next);
-        match place {
-            Place::Next(n) => {
-                next = n;
-            }
-            Place::Refused(refusal) => {
-                return Place::Refused(refusal);
-            }
-        }
-        i += 1;
+    for _ in 0..scans {
+        next = check_scan(bytes, next)?;
     }
-    Place::Next(next)
+    Ok(next)
 }
 
 // Whether the bytes are a scan table: how many scans it has, or the refusal.
-pub fn check_table(bytes: &[u8]) -> TableRead
-    ensures { (result ≡ table_answer (read_table bytes.now))
-        × (table_read_no result ≡ form_no (read_table bytes.now)) }
+#[tactic(auto, using(crate::proofs::Tables::table_checked, crate::proofs::Tables::table_number), unfolding(crate::specs::Table::size_no))]
+pub fn check_table(bytes: &[u8]) -> Result<usize, Refusal>
+    ensures { (numbered result ≡ table_answer (read_table bytes.now))
+        × (no result ≡ form_no (read_table bytes.now)) }
 {
-    let size = numbers::read_number(bytes, 0, Limit::Table);
-    match size {
-        Read::Number { value, next } => {
-            if !sizes::scans_in_range(value) {
-                return TableRead::Refused(Refusal { no: 1 });
-            }
-            let scans = value as usize;
-            let end = forms::ended(bytes.len(), check_scans(bytes, next, scans));
-            match end {
-                Place::Next(_) => TableRead::Scans(scans),
-                Place::Refused(refusal) => TableRead::Refused(refusal),
-            }
-        }
-        Read::Refused(refusal) => TableRead::Refused(refusal),
-    }
+    let size = numbers::read_number(bytes, 0, Limit::Table)?;
+    refuse_unless(sizes::scans_in_range(size.value), Refusal::OutOfRange)?;
+    let scans = size.value as usize;
+    let end = check_scans(bytes, size.next, scans)?;
+    forms::ended(bytes.len(), Ok(end))?;
+    Ok(scans)
 }
 
 // Reads a scan table into lent room, four numbers for each scan. A refusal leaves the room as it was; so do the places past the last scan.
-pub fn read_table(room: &mut [u64], bytes: &[u8]) -> TableRead
-    ensures { (result ≡ table_answer (into_room (read_table bytes.now) room.old))
+pub fn read_table(room: &mut [u64], bytes: &[u8]) -> Result<usize, Refusal>
+    ensures { (numbered result ≡ table_answer (into_room (read_table bytes.now) room.old))
         × (room.new ≡ after_room (read_table bytes.now) room.old)
-        × (table_read_no result ≡ room_no (read_table bytes.now) room.old) }
+        × (no result ≡ room_no (read_table bytes.now) room.old) }
 {
-    let checked = check_table(bytes);
-    match checked {
-        TableRead::Scans(scans) => {
-            if room.len() / 4 < scans {
-                return TableRead::Refused(Refusal { no: 8 });
-            }
-            forms::take_numbers(
-                room,
-                bytes,
-                numbers::width(scans as u64),
-                Limit::Table,
-                scans * 4,
-            );
-            TableRead::Scans(scans)
-        }
-        TableRead::Refused(refusal) => TableRead::Refused(refusal),
-    }
+    let scans = check_table(bytes)?;
+    refuse_unless(scans <= room.len() / 4, Refusal::NoRoom)?;
+    let first = numbers::width(scans as u64);
+    forms::take_numbers(room, bytes, first, Limit::Table, scans * 4);
+    Ok(scans)
 }
 
 // ---- writing
 
 // Writes the table of whole scans, four numbers for each. A refusal leaves the buffer as it was; so do the bytes past the text.
-pub fn write_table(buffer: &mut [u8], fields: &[u64]) -> Written
-    ensures { (result ≡ table_written fields.now buffer.old)
+pub fn write_table(buffer: &mut [u8], fields: &[u64]) -> Result<usize, Refusal>
+    ensures { (numbered result ≡ table_written fields.now buffer.old)
         × (buffer.new ≡ after_table fields.now buffer.old)
-        × (written_no result ≡ table_written_no fields.now buffer.old) }
+        × (no result ≡ table_written_no fields.now buffer.old) }
 {
-    let no = table_no(fields, true);
-    if no != 0 {
-        return Written::Refused(Refusal { no });
-    }
+    check_fields(fields, Tests::Writing)?;
     let scans = (fields.len() / 4) as u64;
     let length = buffer.len();
     let first = numbers::width(scans);
-    if length < first {
-        return Written::Refused(Refusal { no: 8 });
-    }
-    if !forms::fit_in(fields, length - first) {
-        return Written::Refused(Refusal { no: 8 });
-    }
+    refuse_unless(first <= length, Refusal::NoRoom)?;
+    refuse_unless(forms::fit_in(fields, length - first), Refusal::NoRoom)?;
     let at = numbers::put_number(buffer, 0, scans);
-    Written::Next(forms::put_numbers(buffer, at, fields))
+    Ok(forms::put_numbers(buffer, at, fields))
 }

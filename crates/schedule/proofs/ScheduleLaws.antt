@@ -15,22 +15,20 @@ use Rattle.sizes.specs.Sizes.{scans_in_range, sizes_in_range}
 use Rattle.sizes.specs.declared.Sizes.{Sizes}
 use Rattle.numbers.specs.Coding.{groups_of, most_of, form_in, form}
 use Rattle.numbers.specs.declared.Limit.TheVariants as limit
-use Rattle.numbers.specs.declared.Refusal.{Refusal}
-use Rattle.numbers.specs.declared.Written.TheVariants as written
 use Rattle.numbers.proofs.Forms.{form-short}
 use Rattle.numbers.proofs.Puts.{put-refusals, put_refused, put_next}
-use Rattle.forms.specs.Forms.{got, untested, plain, FormRead, read_as, unread, unread_with, whole, form_no, into_room, after_room, forms, all_within}
+use Rattle.forms.specs.Forms.{got, untested, plain, FormRead, read_as, unread, whole, form_no, into_room, after_room, forms, all_within}
 use Rattle.forms.proofs.Rooms as rooms
 use Rattle.forms.proofs.Rooms.{unread-read}
 use Rattle.forms.proofs.FormLaws.{row-forms, stands-append, stands-whole, forms-append, forms-length, forms-bytes}
 use Rattle.schedule.specs.Schedule.{header_of, numbers_of, header_no, after_six, read_schedule, schedule_answer, event_count, header_for, schedule_no, schedule_form, schedule_written, after_schedule}
 use Rattle.schedule.specs.declared.Header.{Header}
-use Rattle.schedule.specs.declared.Checked.{Checked}
-use Rattle.schedule.specs.declared.ScheduleRead.TheVariants as schedule
 use Rattle.schedule.proofs.Sixes.{plain-count, plain-within, plain-reads, plain-refusals, six-numbers, header-numbers}
 use Rattle.schedule.proofs.Parts.{Reading, no_six, no_header, no-events, follows, right, reading}
 use Rattle.sizes.proofs.SizeLaws.{bounds}
 use Rattle.schedule.proofs.Valid.{Right, header-refusals, no-right, right-no, six-within, Valid, no-valid, valid-no, schedule-refusals}
+use Rattle.std.specs.Prelude.{Ok, Err}
+use Rattle.schedule.specs.Steps.{Checked}
 use Rattle.schedule.proofs.Answers.{form-length}
 pub use Rattle.forms.proofs.FormLaws.{Bytes}
 
@@ -230,7 +228,7 @@ longest-stands = longest-of 12_288 refl
 -- ---- refusals
 
 -- a refusal by its number
-pub refused-no : {n : ℕ} {r : Refusal} → unread_with {H = Header} n ≡ unread r → r.no ≡ n
+pub refused-no : {n : ℕ} {r : ℕ} → ◌≡◌ {A = FormRead Header} (unread n) (unread r) → r ≡ n
 unfolding form_no
 refused-no e = sym (ap form_no e)
 
@@ -243,18 +241,18 @@ abbrev pub WriteNo : ℕ → Type 0
 WriteNo n = (n ≡ 1) ⊎ (n ≡ 3) ⊎ (n ≡ 8) ⊎ (n ≡ 12)
 
 -- a reader refuses a form with 1, 3, 11, 12 or 13
-pub read-refusals : (bytes : List ℕ) (r : Refusal) → read_schedule bytes ≡ unread r → ReadNo r.no
+pub read-refusals : (bytes : List ℕ) (r : ℕ) → read_schedule bytes ≡ unread r → ReadNo r
 read-refusals bytes r e = go (reading bytes) e
   where
-    number : {s : Refusal} → (s.no ≡ 11) ⊎ (s.no ≡ 12) → ◌≡◌ {A = FormRead Header} (unread s) (unread r) → ReadNo r.no
+    number : {s : ℕ} → (s ≡ 11) ⊎ (s ≡ 12) → ◌≡◌ {A = FormRead Header} (unread s) (unread r) → ReadNo r
     number (inl p) q = inr (inr (inl (refused-no q ∙ p)))
     number (inr p) q = inr (inr (inr (inl (refused-no q ∙ p))))
 
-    header : {n : ℕ} → (n ≡ 1) ⊎ (n ≡ 3) → unread_with {H = Header} n ≡ unread r → ReadNo r.no
+    header : {n : ℕ} → (n ≡ 1) ⊎ (n ≡ 3) → ◌≡◌ {A = FormRead Header} (unread n) (unread r) → ReadNo r
     header (inl p) q = inl (refused-no q ∙ p)
     header (inr p) q = inr (inl (refused-no q ∙ p))
 
-    go : {k : Checked} {o : FormRead Header} → Reading bytes k o → o ≡ unread r → ReadNo r.no
+    go : {k : Checked} {o : FormRead Header} → Reading bytes k o → o ≡ unread r → ReadNo r
     go (no_six a) q = number (plain-refusals 6 limit.Schedule bytes 0 a) q
     go (no_header {six = six} a h) q = header (header-refusals (header_of six) h) q
     go (no-events {six = six} {first = first} a h d) q = number (plain-refusals ((header_of six).events * 3) limit.Schedule bytes first d) q
@@ -262,29 +260,29 @@ read-refusals bytes r e = go (reading bytes) e
     go (right a h d l) q = absurd (unread-read (sym q))
 
 -- what is answered by a refusal was refused
-answer-refused : (o : FormRead Header) {r : Refusal} → schedule_answer o ≡ schedule.Refused r → o ≡ unread r
+answer-refused : (o : FormRead Header) {r : ℕ} → schedule_answer o ≡ Err r → o ≡ unread r
 unfolding schedule_answer
 answer-refused (unread s) e = cc
 answer-refused (read_as h fields) e = absurd (let z : ◌≡◌ {A = ℕ} 0 1 = cc in omega arith)
 
 -- reading into room refuses as the form does, or with 8 where the room is smaller than the events' numbers
-pub room-refusals : (o : FormRead Header) (room : List ℕ) (r : Refusal) → schedule_answer (into_room o room) ≡ schedule.Refused r → (o ≡ unread r) ⊎ ((r.no ≡ 8) × rooms.Narrow o room)
+pub room-refusals : (o : FormRead Header) (room : List ℕ) (r : ℕ) → schedule_answer (into_room o room) ≡ Err r → (o ≡ unread r) ⊎ ((r ≡ 8) × rooms.Narrow o room)
 room-refusals o room r e = rooms.room-refusals o room r (answer-refused (into_room o room) e)
 
 -- a refusal leaves the room as it was
-pub read-refused : (o : FormRead Header) (room : List ℕ) (r : Refusal) → schedule_answer (into_room o room) ≡ schedule.Refused r → after_room o room ≡ room
+pub read-refused : (o : FormRead Header) (room : List ℕ) (r : ℕ) → schedule_answer (into_room o room) ≡ Err r → after_room o room ≡ room
 read-refused o room r e = rooms.room-refused o room r (answer-refused (into_room o room) e)
 
 -- a writer refuses with 1, 3, 8 or 12
-pub write-refusals : (z : Sizes) (fields d : List ℕ) (r : Refusal) → schedule_written z fields d ≡ written.Refused r → WriteNo r.no
+pub write-refusals : (z : Sizes) (fields d : List ℕ) (r : ℕ) → schedule_written z fields d ≡ Err r → WriteNo r
 write-refusals z fields d r e = ⊎_elim own (λ p. inr (inr (inl p.0))) (put-refusals (schedule_no z fields) (schedule_form z fields) d 0 r e)
   where
-    value : (schedule_no z fields ≡ 1) ⊎ (schedule_no z fields ≡ 3) ⊎ (schedule_no z fields ≡ 12) → r.no ≡ schedule_no z fields → WriteNo r.no
+    value : (schedule_no z fields ≡ 1) ⊎ (schedule_no z fields ≡ 3) ⊎ (schedule_no z fields ≡ 12) → r ≡ schedule_no z fields → WriteNo r
     value (inl p) q = inl (q ∙ p)
     value (inr (inl p)) q = inr (inl (q ∙ p))
     value (inr (inr p)) q = inr (inr (inr (q ∙ p)))
 
-    own : (r.no ≡ schedule_no z fields) × (schedule_no z fields ≡ 0 → ⊥) → WriteNo r.no
+    own : (r ≡ schedule_no z fields) × (schedule_no z fields ≡ 0 → ⊥) → WriteNo r
     own (p, h) = value (schedule-refusals z fields h) p
 
 -- a place n as the answer: the values may be written, n is past their form, and the form has been stored; bytes past it are as they were
@@ -295,7 +293,7 @@ pub record Stored (z : Sizes) (fields d : List ℕ) (n : ℕ) : Type 0 where
   pub buffer : after_schedule z fields d ≡ schedule_form z fields ++ drop n d
 
 -- what a writer says by a next place
-pub write-next : (z : Sizes) (fields d : List ℕ) (n : ℕ) → schedule_written z fields d ≡ written.Next n → Stored z fields d n
+pub write-next : (z : Sizes) (fields d : List ℕ) (n : ℕ) → schedule_written z fields d ≡ Ok n → Stored z fields d n
 write-next z fields d n e =
     let s = put_next (schedule_no z fields) (schedule_form z fields) d 0 n e in
     let l = s.place in
@@ -308,11 +306,11 @@ write-next z fields d n e =
     }
 
 -- a schedule that is written into a buffer reads back from it
-pub write-reads-back : (z : Sizes) (fields d : List ℕ) (n : ℕ) → schedule_written z fields d ≡ written.Next n → read_schedule (take n (after_schedule z fields d)) ≡ read_as (header_for z fields) fields
+pub write-reads-back : (z : Sizes) (fields d : List ℕ) (n : ℕ) → schedule_written z fields d ≡ Ok n → read_schedule (take n (after_schedule z fields d)) ≡ read_as (header_for z fields) fields
 write-reads-back z fields d n e =
     let s = write-next z fields d n e in
     rw (s.buffer, take_at (schedule_form z fields) (drop n d) n (sym s.place)) (schedule-reads-back z fields s.accepted)
 
 -- a refusal leaves the buffer as it was
-pub write-refused : (z : Sizes) (fields d : List ℕ) (r : Refusal) → schedule_written z fields d ≡ written.Refused r → after_schedule z fields d ≡ d
+pub write-refused : (z : Sizes) (fields d : List ℕ) (r : ℕ) → schedule_written z fields d ≡ Err r → after_schedule z fields d ≡ d
 write-refused z fields d r e = put_refused (schedule_no z fields) (schedule_form z fields) d 0 r e

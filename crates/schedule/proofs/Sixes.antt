@@ -6,14 +6,11 @@ use mathlib.Core.Logic.{◌⊎◌}
 use Prim.Native.Nat.{ℕ, zero, suc, ◌+◌, ◌≤◌}
 use native.Mathlib.Omega.{arith}
 use lib.Dec.{leb}
-use lib.ListN.{length, get_or, replicate, length-replicate, drop_of_length-le}
+use lib.ListN.{length, length-append, get_or, replicate, length-replicate, drop_of_length-le}
 use lib.Seq.{sets, sets-eq}
 use borrow.Author.Tests.{leb-true}
 use Rattle.numbers.specs.Coding.{most_of, read_number, form}
 use Rattle.numbers.specs.declared.Limit.{Limit}
-use Rattle.numbers.specs.declared.Refusal.{Refusal}
-use Rattle.numbers.specs.declared.Read.{Read}
-use Rattle.numbers.specs.declared.Read.TheVariants as read
 use Rattle.numbers.proofs.CodingLaws.{refusals}
 use Rattle.numbers.proofs.Forms.{form-in-most}
 use Rattle.forms.specs.Forms.{got, refused, Test, test_read, and_then, row, untested, plain, numbers_at, forms, row_no, as_read, all_within}
@@ -21,10 +18,12 @@ use Rattle.choice.proofs.Tests.{and_l, and_r}
 use Rattle.forms.proofs.Outcomes.{refused-got, refused-prepend, cons-row-no, zero-as-read}
 use Rattle.forms.proofs.FormLaws.{Bytes, Run, none, one, row-run, numbers-of-row, row_reads, row-forms, row_within}
 use Rattle.schedule.specs.Schedule.{header_of, numbers_of}
+use Rattle.std.specs.Prelude.{Ok, Err}
+use Rattle.numbers.specs.Coding.{Read}
 use Rattle.schedule.specs.declared.Header.{Header}
 
 -- a form has at most ten bytes
-pub form-most : (v : ℕ) → length (form v) ≤ 10
+form-most : (v : ℕ) → length (form v) ≤ 10
 unfolding form
 form-most v = form-in-most 10 v
 
@@ -71,15 +70,15 @@ plain-reads limit vs h before after =
     row_reads (replicate (length vs) untested) limit vs (sym (length-replicate (length vs) untested)) (within-tested limit vs h) before after
 
 -- they are refused with 11 or 12
-pub plain-refusals : (n : ℕ) (limit : Limit) (bytes : List ℕ) (at : ℕ) {r : Refusal} → plain n limit bytes at ≡ refused r → (r.no ≡ 11) ⊎ (r.no ≡ 12)
+pub plain-refusals : (n : ℕ) (limit : Limit) (bytes : List ℕ) (at : ℕ) {r : ℕ} → plain n limit bytes at ≡ refused r → (r ≡ 11) ⊎ (r ≡ 12)
 unfolding row and_then test_read
 plain-refusals zero limit bytes at e = absurd (refused-got (sym e))
 plain-refusals (suc n) limit bytes at {r} e = go (read_number limit bytes at) refl e (λ next. plain-refusals n limit bytes next)
   where
     go : (a : Read) → read_number limit bytes at ≡ a → and_then (test_read untested a) (λ next. plain n limit bytes next) ≡ refused r
-        → ((next : ℕ) → plain n limit bytes next ≡ refused r → (r.no ≡ 11) ⊎ (r.no ≡ 12)) → (r.no ≡ 11) ⊎ (r.no ≡ 12)
-    go (read.Number v next) q h more = more next (refused-prepend (v ∷ []) (plain n limit bytes next) h)
-    go (read.Refused s) q h more = let p : s ≡ r = cc in refusals limit bytes at r (rw p at q)
+        → ((next : ℕ) → plain n limit bytes next ≡ refused r → (r ≡ 11) ⊎ (r ≡ 12)) → (r ≡ 11) ⊎ (r ≡ 12)
+    go (Ok m) q h more = more m.next (refused-prepend (m.value ∷ []) (plain n limit bytes m.next) h)
+    go (Err s) q h more = let p : s ≡ r = cc in refusals limit bytes at r (rw p at q)
 
 -- ---- the six
 
@@ -103,3 +102,24 @@ six-numbers (p ∷ a ∷ l ∷ m ∷ s ∷ e ∷ x ∷ xs) h = absurd (omega ari
 pub header-numbers : (h : Header) → header_of (numbers_of h) ≡ h
 unfolding numbers_of header_of
 header-numbers h = refl
+
+-- they are six
+pub six-count : (h : Header) → length (numbers_of h) ≡ 6
+unfolding numbers_of
+six-count h = refl
+
+-- their forms have at most ten bytes each
+pub six-most : (h : Header) → length (forms (numbers_of h)) ≤ 60
+unfolding forms numbers_of
+six-most h =
+    simp length-append (
+    omega (
+      arith,
+      form-most h.sizes.proposers,
+      form-most h.sizes.acceptors,
+      form-most h.sizes.learners,
+      form-most h.sizes.slots,
+      form-most h.sizes.scans,
+      form-most h.events,
+    )
+    )

@@ -1,16 +1,13 @@
 -- The schedule of document 01, "Written forms".
-use Rattle.std.specs.Prelude.{List, [], ◌∷◌, ◌++◌, ℕ, ◌*◌, ◌/◌, ◌%◌, eqb, leb, length, get_or}
+use Rattle.std.specs.Prelude.{List, [], ◌∷◌, ◌++◌, ℕ, ◌*◌, ◌/◌, ◌%◌, eqb, leb, length, get_or, Result, Ok, Err}
 use Rattle.choice.specs.Tests.{◌unless◌, refusal, ◌⨾◌, ok}
 use Rattle.sizes.specs.Sizes.{sizes_in_range}
 use Rattle.sizes.specs.Events.{most_events}
 use Rattle.sizes.specs.declared.Sizes.{Sizes}
-use Rattle.numbers.specs.Coding.{most_of, put_no, put_answer, after_put}
+use Rattle.numbers.specs.Coding.{Written, most_of, put_no, put_answer, after_put}
 use Rattle.numbers.specs.declared.Limit.TheVariants as limit
-use Rattle.numbers.specs.declared.Written.{Written}
 use Rattle.forms.specs.Forms.{Outcome, got, refused, plain, FormRead, read_as, unread, read_unless, whole, forms, all_within}
 use Rattle.schedule.specs.declared.Header.{Header}
-use Rattle.schedule.specs.declared.ScheduleRead.{ScheduleRead}
-use Rattle.schedule.specs.declared.ScheduleRead.TheVariants as schedule
 
 -- the six numbers P, A, L, M, S, E
 unfoldable pub header_of : List ℕ → Header
@@ -57,9 +54,12 @@ unfoldable pub read_schedule : List ℕ → FormRead Header
 read_schedule bytes = after_six bytes (plain 6 limit.Schedule bytes 0)
 
 -- what it answers: the six numbers, or the refusal
+abbrev pub ScheduleRead : Type 0
+ScheduleRead = Result Header ℕ
+
 unfoldable pub schedule_answer : FormRead Header → ScheduleRead
-schedule_answer (read_as header fields) = schedule.Events header
-schedule_answer (unread r) = schedule.Refused r
+schedule_answer (read_as header fields) = Ok header
+schedule_answer (unread r) = Err r
 
 -- ---- writing
 
@@ -95,12 +95,7 @@ after_schedule z fields buffer = after_put (schedule_no z fields) (schedule_form
 
 -- ---- an answer as numbers
 
--- document 01's number of an answer: 0, or the refusal's
-abbrev pub schedule_read_no : ScheduleRead → ℕ
-schedule_read_no (schedule.Events h) = 0
-schedule_read_no (schedule.Refused r) = r.no
-
 -- the six numbers that an answer gives, or what stood there before
 abbrev pub schedule_header : ScheduleRead → List ℕ → List ℕ
-schedule_header (schedule.Events h) old = numbers_of h
-schedule_header (schedule.Refused r) old = old
+schedule_header (Ok h) old = numbers_of h
+schedule_header (Err r) old = old

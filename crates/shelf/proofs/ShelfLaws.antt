@@ -7,27 +7,23 @@ use Prim.Native.Nat.{ℕ, zero, suc, ◌-◌, ◌^◌, ◌<◌, ◌≤◌}
 use native.Mathlib.Omega.{arith}
 use lib.Dec.{eqb, ltb, leb}
 use borrow.Author.Tests.{leb-true, ltb-true, ltb-false, lt-ltb, le-ltb, eqb-true, eqb-false, eq-eqb}
-use Rattle.std.specs.Prelude.{if◌then◌else◌}
+use Rattle.std.specs.Prelude.{Option, Some, None, Ok, Err, if◌then◌else◌}
+use Rattle.choice.specs.Refusals.{no_in}
 use Rattle.choice.specs.Tests.{◌unless◌, ◌⨾◌, ok}
 use Rattle.sets.specs.Scans.{holds, ◌∈◌, ◌⊆◌, fits}
 use Rattle.sets.specs.declared.ScanId.{ScanId}
 use Rattle.sets.specs.declared.scans.Scans.{Scans}
 use Rattle.sets.proofs.ScanLaws.{∈-⊆}
-use Rattle.numbers.specs.declared.Refusal.{Refusal}
 use Rattle.forms.specs.Forms.{FormRead, read_as, unread}
 use Rattle.choice.proofs.Tests.{and_l, and_r, test-passed, no-refusal, rest-unrefused}
-use Rattle.scan_table.specs.declared.TableRead.TheVariants as table
 use Rattle.scan_table.specs.Table.{tag_no, scan_tests, scans_in, table_no, read_table, table_answer}
 use Rattle.scan_table.proofs.Refusals.{gives_one, gives-first}
 use Rattle.scan_table.proofs.Testing.{rows_pass}
 use Rattle.scan_table.proofs.Tables.{table_got, table-tested}
 use Rattle.scan_table.proofs.TableLaws.{ReadRefusal, scan-gives, table-gives, table-refusals}
 use Rattle.shelf.specs.declared.Seen.{Seen}
-use Rattle.shelf.specs.declared.Newest.{Newest}
-use Rattle.shelf.specs.declared.Newest.TheVariants.{Nothing, Found}
-use Rattle.shelf.specs.declared.Shelf.{Shelf}
-use Rattle.shelf.specs.declared.Shelf.TheVariants as answer
-use Rattle.shelf.specs.Shelf.{seen_at, comes_before, is_candidate, better, newest, shown, refused_shelf, question_no, asked_with, ask, where_is, where_is_no, where_is_written, asked_no}
+use Rattle.shelf.specs.declared.Shown.{Shown}
+use Rattle.shelf.specs.Shelf.{Shelf, shows, seen_at, comes_before, is_candidate, better, newest, shown, question_no, asked_with, ask, where_is, where_is_no, where_is_written}
 use Rattle.shelf.proofs.Asking.{ask-newest, where-asked}
 
 -- ---- the order
@@ -149,7 +145,7 @@ below_suc {P} {n} h l i k = go (ltb i n) refl
         let q : i ≡ n = omega (arith, ltb-false i n e) in
         rw q l
 
-nothing-found : {s : Seen} → Nothing ≡ Found s → ⊥
+nothing-found : {s : Seen} → None ≡ Some s → ⊥
 nothing-found e = let z : ◌≡◌ {A = ℕ} 0 1 = cc in omega arith
 
 module _ (fields : List ℕ) (set : Scans) (tag : ℕ) where
@@ -199,22 +195,22 @@ module _ (fields : List ℕ) (set : Scans) (tag : ℕ) where
       }
 
   -- nothing, where there is no candidate; or the last of the candidates
-  data Of (n : ℕ) : Newest → Type 0 where
-    none : NoCandidate n → Of n Nothing
-    one : {s : Seen} → Last n s → Of n (Found s)
+  data Of (n : ℕ) : Option Seen → Type 0 where
+    none : NoCandidate n → Of n None
+    one : {s : Seen} → Last n s → Of n (Some s)
 
   -- a candidate more
-  of-better : {n : ℕ} {found : Newest} → Of n found → is_candidate (seen_at fields n) set tag ≡ true → Of (suc n) (better found (seen_at fields n))
+  of-better : {n : ℕ} {found : Option Seen} → Of n found → is_candidate (seen_at fields n) set tag ≡ true → Of (suc n) (better found (seen_at fields n))
   unfolding better
   of-better (none h) e = one (first-last h e)
   of-better {n} (one {s = s} p) e = go (comes_before s (seen_at fields n)) refl
     where
-      go : (t : Bool) → comes_before s (seen_at fields n) ≡ t → Of (suc n) (if t then Found (seen_at fields n) else Found s)
+      go : (t : Bool) → comes_before s (seen_at fields n) ≡ t → Of (suc n) (if t then Some (seen_at fields n) else Some s)
       go true q = one (next_last p e q)
       go false q = one (same-last p (λ c. q))
 
   -- any other scan more
-  of-same : {n : ℕ} {found : Newest} → Of n found → is_candidate (seen_at fields n) set tag ≡ false → Of (suc n) found
+  of-same : {n : ℕ} {found : Option Seen} → Of n found → is_candidate (seen_at fields n) set tag ≡ false → Of (suc n) found
   of-same (none h) e = none (below_suc h e)
   of-same (one p) e = one (same-last p (λ c. absurd (false≢true (sym e ∙ c))))
 
@@ -229,28 +225,28 @@ module _ (fields : List ℕ) (set : Scans) (tag : ℕ) where
       go o false e = of-same o e
 
   -- what is found is the last of the candidates
-  pub newest-found : (n : ℕ) {s : Seen} → newest n fields set tag ≡ Found s → Last n s
+  pub newest-found : (n : ℕ) {s : Seen} → newest n fields set tag ≡ Some s → Last n s
   newest-found n {s} e = go (of-newest n) e
     where
-      go : {found : Newest} → Of n found → found ≡ Found s → Last n s
+      go : {found : Option Seen} → Of n found → found ≡ Some s → Last n s
       go (none h) q = absurd (nothing-found q)
       go (one {s = t} p) q = let r : t ≡ s = cc in rw (← r) p
 
   -- nothing is found only where there is no candidate
-  pub newest-nothing : (n : ℕ) → newest n fields set tag ≡ Nothing → NoCandidate n
+  pub newest-nothing : (n : ℕ) → newest n fields set tag ≡ None → NoCandidate n
   newest-nothing n e = go (of-newest n) e
     where
-      go : {found : Newest} → Of n found → found ≡ Nothing → NoCandidate n
+      go : {found : Option Seen} → Of n found → found ≡ None → NoCandidate n
       go (none h) q = h
       go (one p) q = absurd (nothing-found (sym q))
 
   -- and where there is no candidate nothing is found
-  pub nothing-newest : (n : ℕ) → NoCandidate n → newest n fields set tag ≡ Nothing
+  pub nothing-newest : (n : ℕ) → NoCandidate n → newest n fields set tag ≡ None
   nothing-newest n h = go (newest n fields set tag) refl
     where
-      go : (found : Newest) → newest n fields set tag ≡ found → found ≡ Nothing
-      go Nothing e = refl
-      go (Found s) e = let p = newest-found n e in absurd (false≢true (sym (h p.place p.below) ∙ p.candidate))
+      go : (found : Option Seen) → newest n fields set tag ≡ found → found ≡ None
+      go None e = refl
+      go (Some s) e = let p = newest-found n e in absurd (false≢true (sym (h p.place p.below) ∙ p.candidate))
 
   -- there is one last candidate
   last-unique : {n : ℕ} {s t : Seen} → Last n s → Last n t → s ≡ t
@@ -265,23 +261,23 @@ module _ (fields : List ℕ) (set : Scans) (tag : ℕ) where
           (before-total fields p.place q.place (eqb-false p.place q.place e))
 
   -- the last of the candidates is what is found
-  pub newest-unique : (n : ℕ) {s : Seen} → Last n s → newest n fields set tag ≡ Found s
+  pub newest-unique : (n : ℕ) {s : Seen} → Last n s → newest n fields set tag ≡ Some s
   newest-unique n {s} p = go (newest n fields set tag) refl
     where
-      go : (found : Newest) → newest n fields set tag ≡ found → found ≡ Found s
-      go Nothing e = absurd (false≢true (sym (newest-nothing n e p.place p.below) ∙ p.candidate))
-      go (Found t) e = ap Found (last-unique (newest-found n e) p)
+      go : (found : Option Seen) → newest n fields set tag ≡ found → found ≡ Some s
+      go None e = absurd (false≢true (sym (newest-nothing n e p.place p.below) ∙ p.candidate))
+      go (Some t) e = ap Some (last-unique (newest-found n e) p)
 
 -- ---- scan times never fall
 
 -- in the set a scan is found, and it is not earlier than s
 pub record FoundLater (n : ℕ) (fields : List ℕ) (set : Scans) (tag : ℕ) (s : Seen) : Type 0 where
   pub seen : Seen
-  pub found : newest n fields set tag ≡ Found seen
+  pub found : newest n fields set tag ≡ Some seen
   pub later : s.scan.time ≤ seen.scan.time
 
 -- a larger set never shows an earlier scan
-pub found-later : (n : ℕ) (fields : List ℕ) {a b : Scans} (tag : ℕ) {s : Seen} → a ⊆ b → newest n fields a tag ≡ Found s → FoundLater n fields b tag s
+pub found-later : (n : ℕ) (fields : List ℕ) {a b : Scans} (tag : ℕ) {s : Seen} → a ⊆ b → newest n fields a tag ≡ Some s → FoundLater n fields b tag s
 found-later n fields {a} {b} tag {s} h e = go (newest n fields b tag) refl
   where
     p : Last fields a tag n s
@@ -290,9 +286,9 @@ found-later n fields {a} {b} tag {s} h e = go (newest n fields b tag) refl
     c : is_candidate (seen_at fields p.place) b tag ≡ true
     c = candidate-⊆ (seen_at fields p.place) tag h p.candidate
 
-    go : (found : Newest) → newest n fields b tag ≡ found → FoundLater n fields b tag s
-    go Nothing q = absurd (false≢true (sym (newest-nothing fields b tag n q p.place p.below) ∙ c))
-    go (Found t) q =
+    go : (found : Option Seen) → newest n fields b tag ≡ found → FoundLater n fields b tag s
+    go None q = absurd (false≢true (sym (newest-nothing fields b tag n q p.place p.below) ∙ c))
+    go (Some t) q =
         record {
           seen = t;
           found = q;
@@ -301,7 +297,7 @@ found-later n fields {a} {b} tag {s} h e = go (newest n fields b tag) refl
 
 -- ---- the answers
 
-refused-shown : {r : Refusal} {i : ScanId} {s t : ℕ} → answer.Refused r ≡ answer.Shown i s t → ⊥
+refused-shown : {r : ℕ} {i : ScanId} {s t : ℕ} → Err r ≡ shows i s t → ⊥
 refused-shown e = let z : ◌≡◌ {A = ℕ} 0 1 = cc in omega arith
 
 -- a question without a refusal: the tag is in range, and the set holds only scans below n
@@ -317,7 +313,7 @@ pub record Asked (n : ℕ) (fields : List ℕ) (set : Scans) (tag : ℕ) (i : Sc
   pub tagged : tag ≤ 2 ^ 32 - 1
   pub fitting : fits set n ≡ true
   pub seen : Seen
-  pub found : newest n fields set tag ≡ Found seen
+  pub found : newest n fields set tag ≡ Some seen
   pub number : i ≡ seen.number
   pub shelf : s ≡ seen.scan.shelf
   pub time : t ≡ seen.scan.time
@@ -326,22 +322,31 @@ pub record Asked (n : ℕ) (fields : List ℕ) (set : Scans) (tag : ℕ) (i : Sc
 pub record ShownBy (r n : ℕ) (fields : List ℕ) (set : Scans) (tag : ℕ) (i : ScanId) (s t : ℕ) : Type 0 where
   pub passes : r ≡ 0
   pub seen : Seen
-  pub found : newest n fields set tag ≡ Found seen
+  pub found : newest n fields set tag ≡ Some seen
   pub number : i ≡ seen.number
   pub shelf : s ≡ seen.scan.shelf
   pub time : t ≡ seen.scan.time
 
-answer-shown : (r n : ℕ) (fields : List ℕ) (set : Scans) (tag : ℕ) {i : ScanId} {s t : ℕ} → asked_with r n fields set tag ≡ answer.Shown i s t → ShownBy r n fields set tag i s t
+answer-shown : (r n : ℕ) (fields : List ℕ) (set : Scans) (tag : ℕ) {i : ScanId} {s t : ℕ} → asked_with r n fields set tag ≡ shows i s t → ShownBy r n fields set tag i s t
 unfolding asked_with shown
 answer-shown r n fields set tag {i} {s} {t} e = go (eqb r 0) refl (newest n fields set tag) refl e
   where
-    go : (b : Bool) → eqb r 0 ≡ b → (x : Newest) → newest n fields set tag ≡ x → (if b then shown x else refused_shelf r) ≡ answer.Shown i s t → ShownBy r n fields set tag i s t
+    go : (b : Bool) → eqb r 0 ≡ b → (x : Option Seen) → newest n fields set tag ≡ x → (if b then shown x else Err r) ≡ shows i s t → ShownBy r n fields set tag i s t
     go false z x q h = absurd (refused-shown h)
-    go true z Nothing q h = absurd (let z : ◌≡◌ {A = ℕ} 0 1 = cc in omega arith)
-    go true z (Found seen) q h = record { passes = eqb-true r 0 z; seen = seen; found = q; number = cc; shelf = cc; time = cc }
+    go true z None q h = absurd (let z : ◌≡◌ {A = ℕ} 0 1 = cc in omega arith)
+    go true z (Some seen) q h =
+        let p : ◌≡◌ {A = Shown} (record { scan = i; shelf = s; time = t }) (record { scan = seen.number; shelf = seen.scan.shelf; time = seen.scan.time }) = cc in
+        record {
+          passes = eqb-true r 0 z;
+          seen = seen;
+          found = q;
+          number = ap (λ (x : Shown). x.scan) p;
+          shelf = ap (λ (x : Shown). x.shelf) p;
+          time = ap (λ (x : Shown). x.time) p;
+        }
 
 -- what the question says by a scan
-pub ask-shown : (n : ℕ) (fields : List ℕ) (set : Scans) (tag : ℕ) {i : ScanId} {s t : ℕ} → ask n fields set tag ≡ answer.Shown i s t → Asked n fields set tag i s t
+pub ask-shown : (n : ℕ) (fields : List ℕ) (set : Scans) (tag : ℕ) {i : ScanId} {s t : ℕ} → ask n fields set tag ≡ shows i s t → Asked n fields set tag i s t
 unfolding ask
 ask-shown n fields set tag e =
     let p = answer-shown (question_no n set tag) n fields set tag e in
@@ -349,7 +354,7 @@ ask-shown n fields set tag e =
     record { tagged = z.0; fitting = z.1; seen = p.seen; found = p.found; number = p.number; shelf = p.shelf; time = p.time }
 
 -- what the question on a table says by a scan: the table is not refused either
-pub where-shown : (fields : List ℕ) (set : Scans) (tag : ℕ) {i : ScanId} {s t : ℕ} → where_is fields set tag ≡ answer.Shown i s t
+pub where-shown : (fields : List ℕ) (set : Scans) (tag : ℕ) {i : ScanId} {s t : ℕ} → where_is fields set tag ≡ shows i s t
     → (table_no scan_tests fields ≡ 0) × Asked (scans_in fields) fields set tag i s t
 unfolding where_is where_is_no
 where-shown fields set tag e =
@@ -362,11 +367,11 @@ pub record ShownLater (w : Shelf) (t : ℕ) : Type 0 where
   pub number : ScanId
   pub shelf : ℕ
   pub time : ℕ
-  pub shown : w ≡ answer.Shown number shelf time
+  pub shown : w ≡ shows number shelf time
   pub later : t ≤ time
 
 -- a larger set that is in range shows no earlier scan
-ask-later : (n : ℕ) (fields : List ℕ) {a b : Scans} (tag : ℕ) {i : ScanId} {s t : ℕ} → a ⊆ b → fits b n ≡ true → ask n fields a tag ≡ answer.Shown i s t → ShownLater (ask n fields b tag) t
+ask-later : (n : ℕ) (fields : List ℕ) {a b : Scans} (tag : ℕ) {i : ScanId} {s t : ℕ} → a ⊆ b → fits b n ≡ true → ask n fields a tag ≡ shows i s t → ShownLater (ask n fields b tag) t
 unfolding shown
 ask-later n fields {a} {b} tag h f e =
     let p = ask-shown n fields a tag e in
@@ -380,14 +385,14 @@ ask-later n fields {a} {b} tag h f e =
     }
 
 -- so it is with the question on a table that has been read
-pub where-later : (fields : List ℕ) {a b : Scans} (tag : ℕ) {i : ScanId} {s t : ℕ} → a ⊆ b → fits b (scans_in fields) ≡ true → where_is fields a tag ≡ answer.Shown i s t
+pub where-later : (fields : List ℕ) {a b : Scans} (tag : ℕ) {i : ScanId} {s t : ℕ} → a ⊆ b → fits b (scans_in fields) ≡ true → where_is fields a tag ≡ shows i s t
     → ShownLater (where_is fields b tag) t
 where-later fields {a} {b} tag h f e =
     let z = (where-shown fields a tag e).0 in
     rw (where-asked fields b tag z) (ask-later (scans_in fields) fields tag h f (sym (where-asked fields a tag z) ∙ e))
 
 -- and with the question on the written form of a table of n scans
-pub written-later : (o : FormRead ℕ) (n : ℕ) {a b : Scans} (tag : ℕ) {i : ScanId} {s t : ℕ} → table_answer o ≡ table.Scans n → a ⊆ b → fits b n ≡ true → where_is_written o a tag ≡ answer.Shown i s t
+pub written-later : (o : FormRead ℕ) (n : ℕ) {a b : Scans} (tag : ℕ) {i : ScanId} {s t : ℕ} → table_answer o ≡ Ok n → a ⊆ b → fits b n ≡ true → where_is_written o a tag ≡ shows i s t
     → ShownLater (where_is_written o b tag) t
 unfolding where_is_written table_answer
 written-later (read_as m fields) n {a} {b} tag c h f e =
@@ -398,14 +403,14 @@ written-later (unread r) n tag c h f e = absurd (refused-shown e)
 -- ---- refusals
 
 -- a refusal of an answer is the one that refused it
-answer-refused : (k n : ℕ) (fields : List ℕ) (set : Scans) (tag : ℕ) (r : Refusal) → asked_with k n fields set tag ≡ answer.Refused r → (r.no ≡ k) × (k ≡ 0 → ⊥)
+answer-refused : (k n : ℕ) (fields : List ℕ) (set : Scans) (tag : ℕ) (r : ℕ) → asked_with k n fields set tag ≡ Err r → (r ≡ k) × (k ≡ 0 → ⊥)
 unfolding asked_with shown
 answer-refused k n fields set tag r e = go (eqb k 0) refl (newest n fields set tag) e
   where
-    go : (b : Bool) → eqb k 0 ≡ b → (x : Newest) → (if b then shown x else refused_shelf k) ≡ answer.Refused r → (r.no ≡ k) × (k ≡ 0 → ⊥)
-    go true z Nothing h = absurd (let z : ◌≡◌ {A = ℕ} 0 1 = cc in omega arith)
-    go true z (Found seen) h = absurd (refused-shown (sym h))
-    go false z x h = (sym (ap asked_no h), eqb-false k 0 z)
+    go : (b : Bool) → eqb k 0 ≡ b → (x : Option Seen) → (if b then shown x else Err k) ≡ Err r → (r ≡ k) × (k ≡ 0 → ⊥)
+    go true z None h = absurd (let z : ◌≡◌ {A = ℕ} 0 1 = cc in omega arith)
+    go true z (Some seen) h = absurd (refused-shown (sym h))
+    go false z x h = (sym (ap no_in h), eqb-false k 0 z)
 
 -- the question refuses with 3
 question-gives : (P : ℕ → Type 0) (n : ℕ) (set : Scans) (tag : ℕ) → P 3 → (question_no n set tag ≡ 0 → ⊥) → P (question_no n set tag)
@@ -419,7 +424,7 @@ ShelfRefusal n = (n ≡ 1) ⊎ (n ≡ 3) ⊎ (n ≡ 10) ⊎ (n ≡ 12)
 
 module _ (fields : List ℕ) (set : Scans) (tag : ℕ) where
   -- a question that is refused is refused so
-  pub where-refusals : (r : Refusal) → where_is fields set tag ≡ answer.Refused r → ShelfRefusal r.no
+  pub where-refusals : (r : ℕ) → where_is fields set tag ≡ Err r → ShelfRefusal r
   unfolding where_is where_is_no
   where-refusals r e =
       let three = inr (inl refl) in
@@ -430,11 +435,11 @@ module _ (fields : List ℕ) (set : Scans) (tag : ℕ) where
 
 module _ (bytes : List ℕ) (set : Scans) (tag : ℕ) where
   -- a question on the written form is refused so, or with 11 or 13: with what its reader refuses
-  pub written-refusals : (r : Refusal) → where_is_written (read_table bytes) set tag ≡ answer.Refused r → ReadRefusal r.no
+  pub written-refusals : (r : ℕ) → where_is_written (read_table bytes) set tag ≡ Err r → ReadRefusal r
   unfolding where_is_written ask
   written-refusals r e = go (read_table bytes) refl e
     where
-      go : (o : FormRead ℕ) → read_table bytes ≡ o → where_is_written o set tag ≡ answer.Refused r → ReadRefusal r.no
+      go : (o : FormRead ℕ) → read_table bytes ≡ o → where_is_written o set tag ≡ Err r → ReadRefusal r
       go (read_as n fields) q h =
           let p = answer-refused (question_no n set tag) n fields set tag r h in
           rw p.0 (question-gives ReadRefusal n set tag (inr (inl refl)) p.1)

@@ -4,22 +4,18 @@ use Rattle.sets.specs.Acceptors.{none, majority}
 use Rattle.sets.specs.Scans.{empty, only, ◌∪◌, first_word}
 use Rattle.sets.specs.declared.scans.Scans.{Scans}
 use Rattle.sizes.specs.declared.Sizes.{Sizes}
-use Rattle.numbers.specs.Coding.{read_number}
+use Rattle.std.specs.declared.result.Result.TheVariants as result
+use Rattle.numbers.specs.Coding.{Read, read_number}
 use Rattle.numbers.specs.declared.Limit.TheVariants.{Schedule}
-use Rattle.numbers.specs.declared.Read.{Read}
-use Rattle.numbers.specs.declared.Read.TheVariants as read
-use Rattle.clock.specs.Clock.{clock_rule, clock_no}
-use Rattle.clock.specs.declared.ScanTime.{ScanTime}
-use Rattle.clock.specs.declared.ScanTime.TheVariants as clock
+use Rattle.clock.specs.Clock.{ScanTime, clock_rule}
 use Rattle.model.specs.declared.Proposer.{Proposer}
 use Rattle.model.specs.declared.Acceptor.{Acceptor}
 use Rattle.model.specs.declared.Message.{Message}
 use Rattle.model.specs.declared.Event.{Event}
-use Rattle.model.specs.declared.Answer as machine
-use Rattle.model.specs.declared.Answer.TheVariants.{Ok, Learnt, Decided, Refused}
+use Rattle.model.specs.declared.Answer.TheVariants.{Done, Learnt, Decided}
 use Rattle.model.specs.Records.{State, fresh_acceptor, fresh_learner, free_slot, slot_of}
 use Rattle.model.specs.Table.{Internal, Proposal, Acknowledgement, Rejection}
-use Rattle.model.specs.Step.{run, answers}
+use Rattle.model.specs.Step.{Answered, run, answers}
 
 -- what a rule answers: a value, or a refusal by its number
 pub data Answer : Type 0 where
@@ -35,24 +31,24 @@ abbrev pub ◌is◌ : Answer → Answer → Example
 rule is paper = record { rule = rule; paper = paper }
 
 abbrev pub of_read : Read → Answer
-of_read (read.Number v next) = value v
-of_read (read.Refused r) = refused r.no
+of_read (result.Ok n) = value n.value
+of_read (result.Err n) = refused n
 
 abbrev pub of_clock : ScanTime → Answer
-of_clock (clock.At time) = value time
-of_clock clock.Refused = refused (clock_no clock.Refused)
+of_clock (result.Ok time) = value time
+of_clock (result.Err n) = refused n
 
 -- ---- the machine: a state, the events that it meets, and what the last of them answers or leaves
 
 -- ok without more: 0; a set learnt or decided: its number, scan 0 the lowest bit
-abbrev pub of_event : machine.Answer → Answer
-of_event Ok = value 0
-of_event (Learnt l v) = value (first_word v)
-of_event (Decided p v) = value (first_word v)
-of_event (Refused n) = refused n
+abbrev pub of_event : Answered → Answer
+of_event (result.Ok Done) = value 0
+of_event (result.Ok (Learnt l v)) = value (first_word v)
+of_event (result.Ok (Decided p v)) = value (first_word v)
+of_event (result.Err n) = refused n
 
-abbrev pub last_of : List machine.Answer → Answer
-last_of ws = of_event (get_or ws (length ws - 1) Ok)
+abbrev pub last_of : List Answered → Answer
+last_of ws = of_event (get_or ws (length ws - 1) (result.Ok Done))
 
 abbrev pub event : ℕ → ℕ → ℕ → Event
 event code a b = record { code = code; a = a; b = b }

@@ -13,7 +13,7 @@ use Rattle.sets.specs.declared.scans.Scans.{Scans}
 use Rattle.sets.proofs.ScanLaws.{fits_below}
 use Rattle.model.specs.declared.Message.{Message}
 use Rattle.model.specs.declared.Proposer.{Proposer}
-use Rattle.model.specs.Records.{Kind}
+use Rattle.model.specs.declared.Kind.{Kind}
 use Rattle.model.specs.Rules.{accepts, gaining, answering, buffering, is_current, acknowledging, rejecting, propose_no, proposing, refine_no, refining, decide_no, deciding, crashed_proposer, listening}
 use Rattle.model.specs.Ranges.{proposer_in_range}
 use Rattle.model.specs.Table.{Acknowledgement, Announcement, Rejection}

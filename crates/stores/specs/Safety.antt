@@ -1,13 +1,12 @@
 -- Demand 3 of site servers, over every history of calls.
-use Rattle.std.specs.Prelude.{◌≡◌, ◌⊎◌, true, List, ℕ, suc, ◌≤◌, ◌<◌, length}
+use Rattle.std.specs.Prelude.{◌≡◌, ◌⊎◌, true, Ok, List, ℕ, suc, ◌≤◌, ◌<◌, length}
 use Rattle.sets.specs.Scans.{empty, ◌⊆◌, ◌∈◌}
 use Rattle.sets.specs.Acceptors.{◌among◌, fits_run, is_majority}
 use Rattle.sets.specs.declared.scans.Scans.{Scans}
 use Rattle.sets.specs.declared.acceptors.Acceptors.{Acceptors}
 use Rattle.sets.specs.declared.ScanId.{ScanId}
 use Rattle.scan_table.specs.Table.{read_table, table_answer}
-use Rattle.scan_table.specs.declared.TableRead.TheVariants as table-read
-use Rattle.shelf.specs.declared.Shelf.TheVariants.{Shown}
+use Rattle.shelf.specs.Shelf.{shows}
 use Rattle.model.specs.Safety.{ShowsBy}
 use Rattle.layouts.specs.Layout.{set_size, set_at, decided_place}
 use Rattle.yazhmandu.specs.Calls.{where_is_bytes}
@@ -51,5 +50,5 @@ module _ {p a s : ℕ} (h : History p a s) where
     -- over one written scan table of s scans, a tag that ymd_where_is finds in the smaller set it finds in the larger, at a scan time no earlier
     pub found_later : (i j : ℕ) (u v : List ℕ) → length u ≡ set_size → length v ≡ set_size
         → Given (h.stores i) (set_at u 0) → Given (h.stores j) (set_at v 0) → set_at u 0 ⊆ set_at v 0
-        → (table : List ℕ) → table_answer (read_table table) ≡ table-read.Scans s → (tag : ℕ) (scan : ScanId) (place time : ℕ)
-        → where_is_bytes table u tag ≡ Shown scan place time → ShowsBy time (where_is_bytes table v tag)
+        → (table : List ℕ) → table_answer (read_table table) ≡ Ok s → (tag : ℕ) (scan : ScanId) (place time : ℕ)
+        → where_is_bytes table u tag ≡ shows scan place time → ShowsBy time (where_is_bytes table v tag)

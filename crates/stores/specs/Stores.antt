@@ -3,7 +3,7 @@ use Rattle.std.specs.Prelude.{◌≡◌, List, ◌∷◌, ◌++◌, ℕ, suc, �
 use Rattle.sets.specs.Scans.{◌∈◌}
 use Rattle.sets.specs.declared.scans.Scans.{Scans}
 use Rattle.model.specs.declared.Message.{Message}
-use Rattle.model.specs.Records.{internal, proposal, acknowledgement, rejection, announcement}
+use Rattle.model.specs.declared.Kind.TheVariants.{Internal as internal, Proposal as proposal, Acknowledgement as acknowledgement, Rejection as rejection, Announcement as announcement}
 use Rattle.model.specs.Rules.{propose_no, proposing, refine_no, refining, decide_no, deciding}
 use Rattle.model.specs.Table.{Internal, Proposal, Acknowledgement, Rejection, Announcement}
 use Rattle.model.specs.Network.{Net, Comes, SendsOnly, News, Changed, Same, Nothing}

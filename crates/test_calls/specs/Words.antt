@@ -1,5 +1,5 @@
 -- How the calls pass sets, limits, sizes and tests as numbers.
-use Rattle.std.specs.Prelude.{Bool, true, false, List, ℕ, eqb, get_or}
+use Rattle.std.specs.Prelude.{Bool, true, false, Result, Ok, Err, List, ℕ, eqb, get_or}
 use Rattle.std.specs.Prelude.{if◌then◌else◌}
 use Rattle.sets.specs.Scans.{of_first_word}
 use Rattle.sets.specs.declared.scans.Scans.{Scans}
@@ -29,3 +29,8 @@ sizes_of five = record {
   slots = get_or five 3 0;
   scans = get_or five 4 0;
 }
+
+-- the value that an answer gives, or what stood there before
+abbrev pub value_or : {T : Type 0} → Result T ℕ → T → T
+value_or (Ok x) old = x
+value_or (Err r) old = old

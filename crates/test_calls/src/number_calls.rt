@@ -1,17 +1,19 @@
 // The number coding. A limit is 0 for schedules, any other number for scan tables. Each call gives 0 or the refusal's number.
 ghost use Rattle.std.specs.Prelude.{◌≡◌, length};
-ghost use Rattle.numbers.specs.Coding.{read_number, form, number_written_no, number_written, after_number, read_no, read_value, read_next, written_next};
+ghost use Rattle.choice.specs.Refusals.{no_in};
+ghost use Rattle.numbers.specs.Coding.{read_number, form, number_written_no, number_written, after_number, read_value, read_next, written_next};
 ghost use Rattle.test_calls.specs.Words.{limit_of};
 
-use numbers::{Limit, Read, Written};
+use crate::give;
+use numbers::Limit;
 
+// It is no `From`, since neither type is of this crate.
 fn limit_of(limit: u32) -> Limit
     ensures { result ≡ limit_of limit }
 {
-    if limit == 0 {
-        Limit::Schedule
-    } else {
-        Limit::Table
+    match limit {
+        0 => Limit::Schedule,
+        _ => Limit::Table,
     }
 }
 
@@ -23,18 +25,17 @@ pub extern "C" fn test_read_number(
     value: &mut u64,
     next: &mut usize,
 ) -> u8
-    ensures { (result ≡ read_no (read_number (limit_of limit) bytes.now at))
+    ensures { (result ≡ no_in (read_number (limit_of limit) bytes.now at))
         × (value.new ≡ read_value (read_number (limit_of limit) bytes.now at) value.old)
         × (next.new ≡ read_next (read_number (limit_of limit) bytes.now at) next.old) }
 {
-    let answer = numbers::read_number(bytes, at, limit_of(limit));
-    match answer {
-        Read::Number { value: v, next: n } => {
-            *value = v;
-            *next = n;
+    match numbers::read_number(bytes, at, limit_of(limit)) {
+        Ok(number) => {
+            *value = number.value;
+            *next = number.next;
             0
         }
-        Read::Refused(refusal) => refusal.no,
+        Err(refusal) => u8::from(refusal),
     }
 }
 
@@ -57,12 +58,8 @@ pub extern "C" fn test_write_number(
         × (buffer.new ≡ after_number (limit_of limit) value buffer.old at)
         × (next.new ≡ written_next (number_written (limit_of limit) value buffer.old at) next.old) }
 {
-    let answer = numbers::write_number(buffer, at, value, limit_of(limit));
-    match answer {
-        Written::Next(n) => {
-            *next = n;
-            0
-        }
-        Written::Refused(refusal) => refusal.no,
-    }
+    give(
+        numbers::write_number(buffer, at, value, limit_of(limit)),
+        next,
+    )
 }

@@ -5,20 +5,19 @@ ghost use Rattle.forms.specs.Forms.{room_no, into_room, after_room};
 ghost use Rattle.schedule.specs.Schedule.{read_schedule, schedule_answer, schedule_written_no, schedule_written, after_schedule, schedule_header};
 ghost use Rattle.test_calls.specs.Words.{sizes_of};
 
-use numbers::Written;
-use schedule::ScheduleRead;
+use crate::give;
 use sizes::Sizes;
 
 // The six numbers of the header go to `header`.
+#[tactic(auto, unfolding(schedule::specs::Schedule::numbers_of))]
 #[unsafe(no_mangle)]
 pub extern "C" fn test_read_schedule(room: &mut [u64], bytes: &[u8], header: &mut [u16; 6]) -> u8
     ensures { (result ≡ room_no (read_schedule bytes.now) room.old)
         × (room.new ≡ after_room (read_schedule bytes.now) room.old)
         × (header.new ≡ schedule_header (schedule_answer (into_room (read_schedule bytes.now) room.old)) header.old) }
 {
-    let answer = schedule::read_schedule(room, bytes);
-    match answer {
-        ScheduleRead::Events(h) => {
+    match schedule::read_schedule(room, bytes) {
+        Ok(h) => {
             let z = h.sizes;
             *header = [
                 z.proposers,
@@ -30,7 +29,7 @@ pub extern "C" fn test_read_schedule(room: &mut [u64], bytes: &[u8], header: &mu
             ];
             0
         }
-        ScheduleRead::Refused(refusal) => refusal.no,
+        Err(refusal) => u8::from(refusal),
     }
 }
 
@@ -52,12 +51,5 @@ pub extern "C" fn test_write_schedule(
         slots: sizes[3],
         scans: sizes[4],
     };
-    let answer = schedule::write_schedule(buffer, z, fields);
-    match answer {
-        Written::Next(n) => {
-            *next = n;
-            0
-        }
-        Written::Refused(refusal) => refusal.no,
-    }
+    give(schedule::write_schedule(buffer, z, fields), next)
 }

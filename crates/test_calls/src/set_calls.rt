@@ -8,60 +8,54 @@ use sets::acceptors::Acceptors;
 use sets::scans::Scans;
 use sets::{AcceptorId, ScanId};
 
-fn number_of(answer: bool) -> u32
-    ensures { result ≡ bit answer }
-{
-    if answer { 1 } else { 0 }
-}
-
 #[unsafe(no_mangle)]
 pub extern "C" fn test_scans_of_one(scan: u16) -> u64
     ensures { result ≡ first_word (only scan) }
 {
-    Scans::of_one(ScanId(scan)).first_word()
+    u64::from(Scans::of_one(ScanId(scan)))
 }
 
 #[unsafe(no_mangle)]
 pub extern "C" fn test_scans_union(a: u64, b: u64) -> u64
     ensures { result ≡ first_word (scans_of a ∪ scans_of b) }
 {
-    let both = Scans::of_first_word(a).union(Scans::of_first_word(b));
-    both.first_word()
+    let both = Scans::from(a).union(Scans::from(b));
+    u64::from(both)
 }
 
 #[unsafe(no_mangle)]
 pub extern "C" fn test_scans_contained(a: u64, b: u64) -> u32
     ensures { result ≡ bit (within (scans_of a) (scans_of b)) }
 {
-    number_of(Scans::of_first_word(a).is_contained_in(Scans::of_first_word(b)))
+    u32::from(Scans::from(a).is_contained_in(Scans::from(b)))
 }
 
 #[unsafe(no_mangle)]
 pub extern "C" fn test_scans_strictly_contained(a: u64, b: u64) -> u32
     ensures { result ≡ bit (strictly_within (scans_of a) (scans_of b)) }
 {
-    number_of(Scans::of_first_word(a).is_strictly_contained_in(Scans::of_first_word(b)))
+    u32::from(Scans::from(a).is_strictly_contained_in(Scans::from(b)))
 }
 
 #[unsafe(no_mangle)]
 pub extern "C" fn test_scans_holds(a: u64, scan: u16) -> u32
     ensures { result ≡ bit (holds (scans_of a) scan) }
 {
-    number_of(Scans::of_first_word(a).holds(ScanId(scan)))
+    u32::from(Scans::from(a).holds(ScanId(scan)))
 }
 
 #[unsafe(no_mangle)]
 pub extern "C" fn test_scans_is_empty(a: u64) -> u32
     ensures { result ≡ bit (is_empty (scans_of a)) }
 {
-    number_of(Scans::of_first_word(a).is_empty())
+    u32::from(Scans::from(a).is_empty())
 }
 
 #[unsafe(no_mangle)]
 pub extern "C" fn test_scans_fits(a: u64, scans: u32) -> u32
     ensures { result ≡ bit (fits (scans_of a) scans) }
 {
-    number_of(Scans::of_first_word(a).fits(scans))
+    u32::from(Scans::from(a).fits(scans))
 }
 
 #[unsafe(no_mangle)]
@@ -82,7 +76,7 @@ pub extern "C" fn test_acceptors_union(q: u8, r: u8) -> u8
 pub extern "C" fn test_acceptors_fits(q: u8, acceptors: u32) -> u32
     ensures { result ≡ bit (fits_run (acceptors_of q) acceptors) }
 {
-    number_of(Acceptors { bits: q }.fits(acceptors))
+    u32::from(Acceptors { bits: q }.fits(acceptors))
 }
 
 #[unsafe(no_mangle)]
@@ -96,5 +90,5 @@ pub extern "C" fn test_acceptors_size(q: u8) -> u32
 pub extern "C" fn test_acceptors_majority(q: u8, acceptors: u32) -> u32
     ensures { result ≡ bit (is_majority (acceptors_of q) acceptors) }
 {
-    number_of(Acceptors { bits: q }.is_majority_of(acceptors))
+    u32::from(Acceptors { bits: q }.is_majority_of(acceptors))
 }

@@ -4,8 +4,7 @@ ghost use Rattle.numbers.specs.Coding.{written_next};
 ghost use Rattle.forms.specs.Forms.{room_no, into_room, after_room};
 ghost use Rattle.scan_table.specs.Table.{read_table, table_answer, table_written_no, table_written, after_table, table_scans};
 
-use numbers::Written;
-use scan_table::TableRead;
+use crate::give;
 
 #[unsafe(no_mangle)]
 pub extern "C" fn test_read_table(room: &mut [u64], bytes: &[u8], scans: &mut usize) -> u8
@@ -13,14 +12,7 @@ pub extern "C" fn test_read_table(room: &mut [u64], bytes: &[u8], scans: &mut us
         × (room.new ≡ after_room (read_table bytes.now) room.old)
         × (scans.new ≡ table_scans (table_answer (into_room (read_table bytes.now) room.old)) scans.old) }
 {
-    let answer = scan_table::read_table(room, bytes);
-    match answer {
-        TableRead::Scans(n) => {
-            *scans = n;
-            0
-        }
-        TableRead::Refused(refusal) => refusal.no,
-    }
+    give(scan_table::read_table(room, bytes), scans)
 }
 
 #[unsafe(no_mangle)]
@@ -29,12 +21,5 @@ pub extern "C" fn test_write_table(buffer: &mut [u8], fields: &[u64], next: &mut
         × (buffer.new ≡ after_table fields.now buffer.old)
         × (next.new ≡ written_next (table_written fields.now buffer.old) next.old) }
 {
-    let answer = scan_table::write_table(buffer, fields);
-    match answer {
-        Written::Next(n) => {
-            *next = n;
-            0
-        }
-        Written::Refused(refusal) => refusal.no,
-    }
+    give(scan_table::write_table(buffer, fields), next)
 }

@@ -1,5 +1,5 @@
 -- The laws of digits. Assumes nothing.
-use mathlib.Core.Path.{◌≡◌, refl}
+use mathlib.Core.Path.{◌≡◌, refl, ap}
 use mathlib.Core.Bool.{Bool, true, false}
 use mathlib.Core.List.{[], ◌∷◌, ◌++◌}
 use Prim.Native.Nat.{ℕ, zero, suc, ◌/◌, ◌%◌, ◌^◌, ◌<◌, ◌≤◌}
@@ -8,8 +8,11 @@ use native.Mathlib.Nat.{pow-suc, div-lt_iff_lt-mul}
 use lib.Dec.{ltb, lit<}
 use lib.ListN.{length, length-append}
 use borrow.Author.Tests.{lt-ltb, le-ltb}
+use native.Mathlib.Nat.{mod-eq_of_lt}
+use Rattle.std.proofs.Common.{⊎_elim}
+use Rattle.std.proofs.lemmas.Bool.{cases_lt}
 use Rattle.std.specs.Prelude.{if◌then◌else◌}
-use Rattle.text.specs.Digits.{digit, decimal_of, hex_of}
+use Rattle.text.specs.Digits.{digit, digits_of, decimal_of, hex_of}
 
 -- ---- decimal numbers
 
@@ -57,10 +60,28 @@ decimal-most (suc n) x = go (decimal-most n (x / 10)) (ltb x 10)
     go h true = omega arith
     go h false = simp length-append (omega arith)
 
--- ---- hex digits
+-- ---- digits in a base
 
 -- n digits
+pub digits-length : (base n x : ℕ) → length (digits_of base n x) ≡ n
+unfolding digits_of
+digits-length base zero x = refl
+digits-length base (suc n) x = simp length-append (omega (arith, digits-length base n (x / base)))
+
 pub hex-length : (n x : ℕ) → length (hex_of n x) ≡ n
-unfolding hex_of
-hex-length zero x = refl
-hex-length (suc n) x = simp length-append (omega (arith, hex-length n (x / 16)))
+hex-length n x = digits-length 16 n x
+
+no-digits : (x : ℕ) → decimal_of 0 x ≡ digits_of 10 (length (decimal_of 0 x)) x
+unfolding digits_of decimal_of
+no-digits x = refl
+
+-- a decimal number has its last digits, as many as it has
+pub decimal-digits : (n x : ℕ) → decimal_of n x ≡ digits_of 10 (length (decimal_of n x)) x
+unfolding digits_of
+decimal-digits zero x = no-digits x
+decimal-digits (suc n) x = ⊎_elim
+    (λ (l : x < 10). rw (decimal-last n x l) (rw (mod-eq_of_lt l) refl))
+    (λ (m : 10 ≤ x).
+    let q : length (decimal_of n (x / 10) ++ (digit (x % 10) ∷ [])) ≡ suc (length (decimal_of n (x / 10))) = simp length-append (omega arith) in
+    rw (decimal-more n x m) (rw q (ap (λ l. l ++ (digit (x % 10) ∷ [])) (decimal-digits n (x / 10)))))
+    (cases_lt x 10)

@@ -1,18 +1,12 @@
--- Digits found last first. Assumes nothing.
+-- Digits counted, and digits found last first. Assumes nothing.
 use mathlib.Core.Path.{◌≡◌, refl, sym, ap, ◌∙◌}
 use mathlib.Core.List.{List, [], ◌∷◌, ◌++◌, append_assoc, append-nil}
 use Prim.Native.Nat.{ℕ, zero, suc, ◌+◌, ◌-◌, ◌/◌, ◌%◌, ◌^◌, ◌<◌, ◌≤◌}
 use native.Mathlib.Omega.{arith}
-use lib.ListN.{length, take, drop, set, length-set, length-append, length-drop, drop_of_length-le}
-use lib.Seq.{take_all, drop-cons, drop-set-lt, get_or-set_same, lt-length-set}
-use Rattle.text.specs.Digits.{digit, decimal_of, decimal, hex_of, hex}
+use lib.ListN.{length, drop, set, length-append, drop_of_length-le}
+use lib.Seq.{drop-cons, drop-set-lt, get_or-set_same, lt-length-set}
+use Rattle.text.specs.Digits.{digit, digits_of, decimal_of, decimal}
 use Rattle.text.proofs.DigitLaws.{decimal-more, decimal-last, decimal-some, decimal-most, less}
-
--- a digit stored before those that were found
-drop-stored : (l : List ℕ) (i a : ℕ) → i < length l → drop i (set l i a) ≡ a ∷ drop (suc i) l
-drop-stored l i a h =
-    drop-cons (set l i a) i 0 (lt-length-set l i a h)
-    ∙ rw (get_or-set_same l i a 0 h, drop-set-lt (suc i) l i a (omega arith))
 
 -- ---- decimal numbers
 
@@ -74,58 +68,30 @@ module _ {value width rest : ℕ} (l : Counted value width rest) where
   pub count-last : rest < 10 → width ≡ length (decimal value)
   count-last h = l.count ∙ ap length (last l.part h)
 
--- the digits found stand in the last places of 20
-pub record Filled (value first rest : ℕ) (digits : List ℕ) : Type 0 where
-  pub size : length digits ≡ 20
-  pub inside : first < 20
-  pub part : Rest value (suc first) rest (drop (suc first) digits)
+-- ---- digits in a base, found last first: those of the rest, with those found, which stand from a place on, make the whole
 
-pub begin-fill : (value : ℕ) (digits : List ℕ) → length digits ≡ 20 → value < 2 ^ 64 → Filled value 19 value digits
-begin-fill value digits e h = record { size = e; inside = omega arith; part = rw (drop_of_length-le digits {i = 20} (omega arith)) (begin value h) }
+-- a digit stored before those that were found
+drop-stored : (l : List ℕ) (i a : ℕ) → i < length l → drop i (set l i a) ≡ a ∷ drop (suc i) l
+drop-stored l i a h =
+    drop-cons (set l i a) i 0 (lt-length-set l i a h)
+    ∙ rw (get_or-set_same l i a 0 h, drop-set-lt (suc i) l i a (omega arith))
 
-module _ {value first rest : ℕ} {digits : List ℕ} (l : Filled value first rest digits) where
-  pub fill_more : 10 ≤ rest → Filled value (first - 1) (rest / 10) (set digits first (digit (rest % 10)))
-  fill_more h =
-      let q : suc (first - 1) ≡ first = omega (arith, several l.part h) in
-      record {
-        size = length-set digits first (digit (rest % 10)) ∙ l.size;
-        inside = omega (arith, l.inside);
-        part = rw (q, drop-stored digits first (digit (rest % 10)) (omega (arith, l.inside, l.size))) (more l.part h);
-      }
+pub begin-found : (base value : ℕ) (digits : List ℕ) → digits_of base (length digits) value ++ drop (length digits) digits ≡ digits_of base (length digits) value
+begin-found base value digits = rw (drop_of_length-le digits {i = length digits} (omega arith)) (append-nil (digits_of base (length digits) value))
 
-  pub fill-last : rest < 10 → take (20 - first) (drop first (set digits first (digit rest))) ≡ decimal value
-  fill-last h =
-      take_all (20 - first) (drop first (set digits first (digit rest))) (simp (length-drop, length-set) (omega (arith, l.size)))
-      ∙ drop-stored digits first (digit rest) (omega (arith, l.inside, l.size))
-      ∙ last l.part h
-
--- ---- hex digits
-
--- the digits of the rest, with those found, which stand in the last places of 16, make the number
-pub record HexFilled (value found rest : ℕ) (digits : List ℕ) : Type 0 where
-  pub size : length digits ≡ 16
-  pub whole : hex_of (16 - found) rest ++ drop (16 - found) digits ≡ hex value
-
-pub begin-hex : (value : ℕ) (digits : List ℕ) → length digits ≡ 16 → HexFilled value 0 value digits
-begin-hex value digits e = record { size = e; whole = rw (drop_of_length-le digits {i = 16} (omega arith)) (append-nil (hex value)) }
-
-module _ {value found rest : ℕ} {digits : List ℕ} (l : HexFilled value found rest digits) where
+module _ (base place rest : ℕ) (digits : List ℕ) {whole : List ℕ} (part : digits_of base place rest ++ drop place digits ≡ whole) where
   -- one digit more
-  pub more-hex : found < 16 → HexFilled value (found + 1) (rest / 16) (set digits (15 - found) (digit (rest % 16)))
-  unfolding hex_of
-  more-hex h =
-      let n : ℕ = 15 - found in
-      let d : ℕ = digit (rest % 16) in
-      let now : 16 - found ≡ suc n = omega arith in
-      let after : 16 - (found + 1) ≡ n = omega arith in
-      record {
-        size = length-set digits n d ∙ l.size;
-        whole = rw (after, drop-stored digits n d (omega (arith, l.size))) (sym (append_assoc (hex_of n (rest / 16)) (d ∷ []) (drop (suc n) digits)) ∙ rw now at l.whole);
-      }
+  pub more-found : 0 < place → place ≤ length digits → digits_of base (place - 1) (rest / base) ++ drop (place - 1) (set digits (place - 1) (digit (rest % base))) ≡ whole
+  unfolding digits_of
+  more-found h inside =
+      let n : ℕ = place - 1 in
+      let d : ℕ = digit (rest % base) in
+      let now : place ≡ suc n = omega arith in
+      rw (drop-stored digits n d (omega arith)) (sym (append_assoc (digits_of base n (rest / base)) (d ∷ []) (drop (suc n) digits)) ∙ rw now at part)
 
   -- all digits
-  pub last-hex : 16 ≤ found → digits ≡ hex value
-  unfolding hex_of
-  last-hex h =
-      let none : 16 - found ≡ 0 = omega arith in
-      rw none at l.whole
+  pub last-found : place ≤ 0 → digits ≡ whole
+  unfolding digits_of
+  last-found h =
+      let none : place ≡ 0 = omega arith in
+      rw none at part

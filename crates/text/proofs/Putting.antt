@@ -1,34 +1,55 @@
--- What is left of a word to put. Assumes nothing.
-use mathlib.Core.Path.{◌≡◌, refl, sym, ◌∙◌}
-use mathlib.Core.List.{List}
-use Prim.Native.Nat.{ℕ, ◌+◌, ◌≤◌, ◌<◌}
-use native.Mathlib.Numerals.{add-one}
-use lib.ListN.{length, drop, get_or, set, length-set, drop_of_length-le}
-use lib.Seq.{sets, drop-cons}
-use Rattle.forms.proofs.Steps.{sets-out}
+-- A word put as far as it has room. Assumes nothing.
+use Rattle.std.proofs.Common.{◌≡◌, ℕ, ◌+◌, ◌-◌, ◌≤◌, ◌<◌, List, ◌++◌, arith, min, length, take, drop, sym, ap, ◌∙◌, [], ◌∷◌, suc, refl, append-nil, length-drop, length-take-le, take_all, take-append-drop, ⊎_elim}
+use Rattle.std.proofs.lemmas.Bool.{cases_lt}
+use Rattle.std.proofs.lemmas.List.Edits.{sets, sets-eq}
+use borrow.Rule.Slice.PartMut.{put_mid}
+use lib.ListN.{set, drop_of_length-le}
+use lib.Seq.{length-sets}
+use Rattle.std.proofs.lemmas.List.{set-append_right}
+use Rattle.forms.proofs.Steps.{sets-out, sets-append}
 
--- the bytes of the word from i on, put into d from a place on, make the whole
-pub record Left (word d₀ : List ℕ) (at : ℕ) (d : List ℕ) (place i : ℕ) : Type 0 where
-  pub same : length d ≡ length d₀
-  pub left : sets d place (drop i word) ≡ sets d₀ at word
+-- what is past the end is left out
+cut : (d word : List ℕ) (at n : ℕ) → n ≤ length word → length d ≤ at + n → sets d at (take n word) ≡ sets d at word
+cut d word at n fits h =
+    let size : length (take n word) ≡ n = length-take-le n word fits in
+    let out : sets (sets d at (take n word)) (at + length (take n word)) (drop n word) ≡ sets d at (take n word) = sets-out (drop n word) (sets d at (take n word)) (at + length (take n word)) (omega (arith, size, length-sets d at (take n word), h)) in
+    sym (ap (sets d at) (sym (take-append-drop n word)) ∙ sets-append (take n word) (drop n word) d at ∙ out)
 
--- before the first byte
-pub begin : (word d₀ : List ℕ) (at : ℕ) → Left word d₀ at d₀ at 0
-begin word d₀ at = record { same = refl; left = refl }
+-- a word put at the start of a room, as far as it goes
+pub put_first : (room word : List ℕ) (n : ℕ) → n ≡ min (length room) (length word) → take n word ++ drop n room ≡ sets room 0 word
+put_first room word n q =
+    let size : length (take n word) ≡ n = length-take-le n word (omega (arith, q)) in
+    let end : 0 + length (take n word) ≡ n = omega (arith, size) in
+    let whole : sets room 0 (take n word) ≡ take n word ++ drop n room = sets-eq (take n word) room 0 (omega (arith, q, size)) ∙ ap (λ k. take n word ++ drop k room) end in
+    sym whole ∙ ⊎_elim
+    (λ (fewer : n < length word). cut room word 0 n (omega (arith, q)) (omega (arith, q, fewer)))
+    (λ (all : length word ≤ n). ap (sets room 0) (take_all n word all))
+    (cases_lt n (length word))
 
-module _ {word d₀ : List ℕ} {at : ℕ} {d : List ℕ} {place i : ℕ} (l : Left word d₀ at d place i) where
-  -- after one byte more
-  pub more : i < length word → Left word d₀ at (set d place (get_or word i 0)) (place + 1) (i + 1)
-  more h =
-      record {
-        same = length-set d place (get_or word i 0) ∙ l.same;
-        left = rw (add-one place, add-one i) (rw (drop-cons word i 0 h) at l.left);
-      }
+-- what is put into the second of two parts is put into the whole
+sets-part : (a b word : List ℕ) (i : ℕ) → a ++ sets b i word ≡ sets (a ++ b) (length a + i) word
+sets-part a b [] i = refl
+sets-part a b (w ∷ word) i =
+    let here : length a + i - length a ≡ i = omega arith in
+    let next : length a + suc i ≡ suc (length a + i) = omega arith in
+    let stored : set (a ++ b) (length a + i) w ≡ a ++ set b i w = set-append_right a b (length a) (length a + i) w refl (omega arith) ∙ ap (λ k. a ++ set b k w) here in
+    sets-part a (set b i w) word (suc i) ∙ ap (λ k. sets (a ++ set b i w) k word) next ∙ ap (λ l. sets l (suc (length a + i)) word) (sym stored)
 
-  -- past the end nothing is put
-  pub full : length d ≤ place → d ≡ sets d₀ at word
-  full h = sym (sets-out (drop i word) d place h) ∙ l.left
-
-  -- after the last byte
-  pub last : length word ≤ i → d ≡ sets d₀ at word
-  last h = rw (drop_of_length-le word h) at l.left
+-- the part of the buffer from a place on
+pub put : (d word : List ℕ) (at start k : ℕ) → start ≡ min (length d) at → k ≡ length d - start → put_mid start k d (sets (take k (drop start d)) 0 word) ≡ sets d at word
+put d word at start k p q =
+    let rest : List ℕ = drop start d in
+    let size : length rest ≡ k = length-drop start d ∙ sym q in
+    let front : length (take start d) + 0 ≡ start = omega (arith, length-take-le start d (omega (arith, p))) in
+    let all : take k rest ≡ rest = take_all k rest (omega (arith, size)) in
+    let none : drop k rest ≡ [] = drop_of_length-le rest (omega (arith, size)) in
+    let whole : put_mid start k d (sets (take k rest) 0 word) ≡ sets d start word =
+    ap (λ r. take start d ++ (sets (take k rest) 0 word ++ r)) none
+    ∙ ap (λ r. take start d ++ r) (append-nil (sets (take k rest) 0 word) ∙ ap (λ r. sets r 0 word) all)
+    ∙ sets-part (take start d) rest word 0
+    ∙ ap (λ n. sets (take start d ++ rest) n word) front
+    ∙ ap (λ l. sets l start word) (take-append-drop start d) in
+    whole ∙ ⊎_elim
+    (λ (l : at < length d). let e : start ≡ at = omega (arith, p, l) in ap (λ n. sets d n word) e)
+    (λ (m : length d ≤ at). sets-out word d start (omega (arith, p, m)) ∙ sym (sets-out word d at m))
+    (cases_lt at (length d))

@@ -15,10 +15,14 @@ decimal_of (suc n) x = if ltb x 10 then (digit x ∷ []) else decimal_of n (x / 
 abbrev pub decimal : ℕ → List ℕ
 decimal x = decimal_of 20 x
 
+-- n digits in a base
+unfoldable pub digits_of : ℕ → ℕ → ℕ → List ℕ
+digits_of base zero x = []
+digits_of base (suc n) x = digits_of base n (x / base) ++ (digit (x % base) ∷ [])
+
 -- n hex digits
-unfoldable pub hex_of : ℕ → ℕ → List ℕ
-hex_of zero x = []
-hex_of (suc n) x = hex_of n (x / 16) ++ (digit (x % 16) ∷ [])
+abbrev pub hex_of : ℕ → ℕ → List ℕ
+hex_of n x = digits_of 16 n x
 
 -- a word of 64 bits as 16 lower-case hex digits
 abbrev pub hex : ℕ → List ℕ

@@ -1,23 +1,24 @@
-// Words, decimal numbers and hex digits put into a buffer from a place on. What would stand past the buffer's end is left out.
+// Words, decimal numbers and hex digits put into a buffer from a place on. What would stand past the buffer's end is left out, which `fmt::Write` and `Display` do not promise.
 #![tactic(auto)]
 
-ghost use Rattle.std.specs.Prelude.{◌≡◌, ◌<◌, length};
+ghost use Rattle.std.specs.Prelude.{◌≡◌, ◌<◌, ◌≤◌, length};
 ghost use Rattle.std.proofs.lemmas.List.Edits.{sets};
-ghost use Rattle.text.specs.Digits.{digit, decimal, hex};
+ghost use Rattle.text.specs.Digits.{digit, digits_of, decimal, hex};
 
 pub fn put_word(buffer: &mut [u8], at: usize, word: &[u8])
     ensures { buffer.new ≡ sets buffer.old at word.now }
 {
-    let mut place = at;
-    let mut i: usize = 0;
-    while i < word.len() {
-        if buffer.len() <= place {
-            return;
-        }
-        buffer[place] = word[i];
-        place += 1;
-        i += 1;
-    }
+    let start = buffer.len().min(at);
+    let room = &mut buffer[start..];
+    put_first(room, word)
+}
+
+// As many bytes of a word as there is room for.
+fn put_first(room: &mut [u8], word: &[u8])
+    ensures { room.new ≡ sets room.old 0 word.now }
+{
+    let n = room.len().min(word.len());
+    room[..n].copy_from_slice(&word[..n]);
 }
 
 // The byte of a digit.
@@ -26,9 +27,22 @@ fn digit_byte(value: u64) -> u8
     ensures { result ≡ digit value }
 {
     if value < 10 {
-        return (48 + value) as u8;
+        b'0' + value as u8
+    } else {
+        b'a' + (value - 10) as u8
     }
-    (87 + value) as u8
+}
+
+// The last digits of a number in a base, as many as there is room for.
+fn find_digits<const BASE: u64>(digits: &mut [u8], value: u64)
+    requires { (2 ≤ BASE) × (BASE ≤ 16) }
+    ensures { digits.new ≡ digits_of BASE (length digits.old) value }
+{
+    let mut rest = value;
+    for place in (0..digits.len()).rev() {
+        digits[place] = digit_byte(rest % BASE);
+        rest /= BASE;
+    }
 }
 
 // How many digits a decimal number has.
@@ -38,40 +52,26 @@ pub fn decimal_width(value: u64) -> usize
     let mut width: usize = 1;
     let mut rest = value;
     while 10 <= rest {
-        rest = rest / 10;
+        rest /= 10;
         width += 1;
     }
     width
 }
 
-// The digits are found last first, in the last places of 20.
 pub fn put_decimal(buffer: &mut [u8], at: usize, value: u64)
     ensures { buffer.new ≡ sets buffer.old at (decimal value) }
 {
-    let mut digits: [u8; 20] = [0; 20];
-    let mut rest = value;
-    let mut first: usize = 19;
-    while 10 <= rest {
-        digits[first] = digit_byte(rest % 10);
-        rest = rest / 10;
-        first -= 1;
-    }
-    digits[first] = digit_byte(rest);
-    put_word(buffer, at, &digits[first..])
+    // Room for the digits of any number: memory is fixed, with no heap.
+    let mut room = [0; 20];
+    let digits = &mut room[..decimal_width(value)];
+    find_digits::<10>(digits, value);
+    put_word(buffer, at, digits)
 }
 
-// 16 digits, found last first.
 pub fn put_hex(buffer: &mut [u8], at: usize, value: u64)
     ensures { buffer.new ≡ sets buffer.old at (hex value) }
 {
-    let mut digits: [u8; 16] = [0; 16];
-    let mut rest = value;
-    let mut found: usize = 0;
-    while found < 16 {
-        let place = 15 - found;
-        digits[place] = digit_byte(rest % 16);
-        rest = rest / 16;
-        found += 1;
-    }
+    let mut digits = [0; 16];
+    find_digits::<16>(&mut digits, value);
     put_word(buffer, at, &digits)
 }

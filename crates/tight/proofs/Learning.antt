@@ -6,21 +6,27 @@ use Prim.Native.Nat.{ℕ, zero, suc}
 use lib.Dec.{eqb}
 use lib.Seq.{get_or-set_other}
 use borrow.Author.Tests.{eqb-true, eqb-false}
-use Rattle.std.specs.Prelude.{if◌then◌else◌}
+use Rattle.std.specs.Prelude.{if◌then◌else◌, Ok, Err}
 use Rattle.choice.proofs.Tests.{if-ind, and_r}
 use Rattle.sizes.specs.declared.Sizes.{Sizes}
 use Rattle.sets.specs.declared.scans.Scans.{Scans}
 use Rattle.sets.specs.Scans.{◌⊆◌}
 use Rattle.sets.proofs.ScanLaws.{strictly-true, ⊆-refl}
-use Rattle.model.specs.Records.{State, Kind, free, internal, proposal, acknowledgement, rejection, announcement, no_kind, kind_of, Role, a_proposer, an_acceptor, a_learner, no_role, role_of, fresh_learner, proposer_of, acceptor_of, learner_of, slot_of, put_learner, freeing}
+use Rattle.model.specs.Records.{State, kind_of, role_of, fresh_learner, proposer_of, acceptor_of, learner_of, slot_of, put_learner, freeing}
+use Rattle.model.specs.declared.Kind.{Kind}
+use Rattle.model.specs.declared.Kind.TheVariants.{Free as free, Internal as internal, Proposal as proposal, Acknowledgement as acknowledgement, Rejection as rejection, Announcement as announcement, NoKind as no_kind}
+use Rattle.model.specs.declared.Role.{Role}
+use Rattle.model.specs.declared.Role.TheVariants.{Proposer as a_proposer, Acceptor as an_acceptor, Learner as a_learner, NoRole as no_role}
 use Rattle.model.specs.Rules.{is_current, accepts, learns, newly_heard, listening, crashed_learner}
-use Rattle.model.specs.Events.{Code, receive, deliver, drop, duplicate, propose, refine, decide, crash, no_code, code_of, Effect, effect, delivery, proposes, crashed}
-use Rattle.model.specs.Step.{stepped, step_no, step, sent}
+use Rattle.model.specs.Events.{code_of, Effect, effect, delivery, proposes, crashed}
+use Rattle.model.specs.declared.Code.{Code}
+use Rattle.model.specs.declared.Code.TheVariants.{Receive as receive, Deliver as deliver, Drop as drop, Duplicate as duplicate, Propose as propose, Refine as refine, Decide as decide, Crash as crash, NoCode as no_code}
+use Rattle.model.specs.Step.{Answered, stepped, step_no, step, sent}
 use Rattle.model.specs.declared.Learner.{Learner}
 use Rattle.model.specs.declared.Message.{Message}
 use Rattle.model.specs.declared.Event.{Event}
 use Rattle.model.specs.declared.Answer.{Answer}
-use Rattle.model.specs.declared.Answer.TheVariants.{Ok, Learnt, Decided, Refused}
+use Rattle.model.specs.declared.Answer.TheVariants.{Done, Learnt, Decided}
 use Rattle.model.proofs.Lists.{set-rel}
 use Rattle.model.proofs.RuleLaws.{listening-learnt}
 use Rattle.model.proofs.Steps.{does}
@@ -29,8 +35,8 @@ use Rattle.tight.specs.Learning.{TellsLearnt}
 
 -- ---- a learner's set stays, or it is said
 
-abbrev StaysOrSaid : State → ℕ → State → Answer → Type 0
-StaysOrSaid s l t w = ((learner_of t l).learnt ≡ (learner_of s l).learnt) ⊎ ((v : Scans) × (w ≡ Learnt (record { 0 = l }) v))
+abbrev StaysOrSaid : State → ℕ → State → Answered → Type 0
+StaysOrSaid s l t w = ((learner_of t l).learnt ≡ (learner_of s l).learnt) ⊎ ((v : Scans) × (w ≡ Ok (Learnt (record { 0 = l }) v)))
 
 -- where a learner's new record has learnt the same
 same-put : (s : State) (i : ℕ) (x : Learner) → (learner_of s i).learnt ≡ x.learnt → (l : ℕ) → (learner_of (put_learner s i x) l).learnt ≡ (learner_of s l).learnt
@@ -41,22 +47,22 @@ module _ (a : ℕ) (s : State) (m : Message) (l : ℕ) where
   heard_by = listening a (learner_of s m.addressee) m
 
   announced : (b : Bool) → learns a (learner_of s m.addressee) m ≡ b
-      → StaysOrSaid s l (put_learner s m.addressee heard_by) (if b then Learnt (record { 0 = m.addressee }) heard_by.learnt else Ok)
+      → StaysOrSaid s l (put_learner s m.addressee heard_by) (Ok (if b then Learnt (record { 0 = m.addressee }) heard_by.learnt else Done))
   announced false h = inl (same-put s m.addressee heard_by (sym (listening-learnt a (learner_of s m.addressee) m ∙ rw h)) l)
   announced true h = by (eqb l m.addressee) refl
     where
-      by : (b : Bool) → eqb l m.addressee ≡ b → StaysOrSaid s l (put_learner s m.addressee heard_by) (Learnt (record { 0 = m.addressee }) heard_by.learnt)
-      by true e = inr (heard_by.learnt, ap (λ (k : ℕ). Learnt (record { 0 = k }) heard_by.learnt) (sym (eqb-true l m.addressee e)))
+      by : (b : Bool) → eqb l m.addressee ≡ b → StaysOrSaid s l (put_learner s m.addressee heard_by) (Ok (Learnt (record { 0 = m.addressee }) heard_by.learnt))
+      by true e = inr (heard_by.learnt, ap (λ (k : ℕ). Ok (Learnt (record { 0 = k }) heard_by.learnt)) (sym (eqb-true l m.addressee e)))
       by false e = inl (ap (λ (y : Learner). y.learnt) (get_or-set_other s.learners m.addressee l heard_by fresh_learner (eqb-false l m.addressee e)))
 
 module _ (z : Sizes) (s : State) (l : ℕ) where
-  delivered : (m : Message) (k : Kind) → StaysOrSaid s l (sent (delivery z s m k)) (delivery z s m k).answer
+  delivered : (m : Message) (k : Kind) → StaysOrSaid s l (sent (delivery z s m k)) (Ok (delivery z s m k).answer)
   unfolding delivery
   delivered m free = inl refl
   delivered m internal = inl refl
-  delivered m proposal = if-ind (λ (x : Effect). StaysOrSaid s l (sent x) x.answer) (accepts (acceptor_of s m.addressee) m.set) _ _ (λ _. inl refl) (λ _. inl refl)
-  delivered m acknowledgement = if-ind (λ (x : Effect). StaysOrSaid s l (sent x) x.answer) (is_current (proposer_of s m.addressee) m.number) _ _ (λ _. inl refl) (λ _. inl refl)
-  delivered m rejection = if-ind (λ (x : Effect). StaysOrSaid s l (sent x) x.answer) (is_current (proposer_of s m.addressee) m.number) _ _ (λ _. inl refl) (λ _. inl refl)
+  delivered m proposal = if-ind (λ (x : Effect). StaysOrSaid s l (sent x) (Ok x.answer)) (accepts (acceptor_of s m.addressee) m.set) _ _ (λ _. inl refl) (λ _. inl refl)
+  delivered m acknowledgement = if-ind (λ (x : Effect). StaysOrSaid s l (sent x) (Ok x.answer)) (is_current (proposer_of s m.addressee) m.number) _ _ (λ _. inl refl) (λ _. inl refl)
+  delivered m rejection = if-ind (λ (x : Effect). StaysOrSaid s l (sent x) (Ok x.answer)) (is_current (proposer_of s m.addressee) m.number) _ _ (λ _. inl refl) (λ _. inl refl)
   delivered m announcement = announced z.acceptors s m l (learns z.acceptors (learner_of s m.addressee) m) refl
   delivered m no_kind = inl refl
 
@@ -68,7 +74,7 @@ module _ (z : Sizes) (s : State) (l : ℕ) where
   crash-stays a_learner i = same-put s i (crashed_learner (learner_of s i)) refl l
   crash-stays no_role i = refl
 
-  effect-stays : (c : Code) (a b : ℕ) → StaysOrSaid s l (sent (effect z s c a b)) (effect z s c a b).answer
+  effect-stays : (c : Code) (a b : ℕ) → StaysOrSaid s l (sent (effect z s c a b)) (Ok (effect z s c a b).answer)
   unfolding effect proposes
   effect-stays receive a b = inl refl
   effect-stays deliver a b = delivered z (freeing s a) l (slot_of s a) (kind_of (slot_of s a).kind)
@@ -80,7 +86,7 @@ module _ (z : Sizes) (s : State) (l : ℕ) where
   effect-stays crash a b = inl (crash-stays (role_of a) b)
   effect-stays no_code a b = inl refl
 
-stepped-stays : (s : State) (l : ℕ) (x : Effect) (n : ℕ) → StaysOrSaid s l (sent x) x.answer → StaysOrSaid s l (stepped n s x).state (stepped n s x).answer
+stepped-stays : (s : State) (l : ℕ) (x : Effect) (n : ℕ) → StaysOrSaid s l (sent x) (Ok x.answer) → StaysOrSaid s l (stepped n s x).state (stepped n s x).answer
 unfolding stepped
 stepped-stays s l x zero h = h
 stepped-stays s l x (suc n) h = inl refl
@@ -91,11 +97,11 @@ step_stays z s e l = stepped-stays s l (does z s e) (step_no z s e) (effect-stay
 
 -- ---- what is said to be learnt had not been learnt before
 
-NewIn : State → Answer → Type 0
-NewIn s Ok = Unit {0}
-NewIn s (Learnt l v) = (learner_of s l.0).learnt ≡ v → ⊥
-NewIn s (Decided p v) = Unit {0}
-NewIn s (Refused n) = Unit {0}
+NewIn : State → Answered → Type 0
+NewIn s (Ok Done) = Unit {0}
+NewIn s (Ok (Learnt l v)) = (learner_of s l.0).learnt ≡ v → ⊥
+NewIn s (Ok (Decided p v)) = Unit {0}
+NewIn s (Err n) = Unit {0}
 
 learns-strictly : (a : ℕ) (l : Learner) (m : Message) → learns a l m ≡ true → (l.learnt ⊆ (newly_heard l m).set) × ((newly_heard l m).set ⊆ l.learnt → ⊥)
 unfolding learns
@@ -108,27 +114,26 @@ learns-more a l m h e =
     (learns-strictly a l m h).1 (subst (λ (u : Scans). u ⊆ l.learnt) (e ∙ v) (⊆-refl l.learnt))
 
 module _ (z : Sizes) (s : State) where
-  delivered-new : (m : Message) (k : Kind) → NewIn s (delivery z s m k).answer
+  delivered-new : (m : Message) (k : Kind) → NewIn s (Ok (delivery z s m k).answer)
   unfolding delivery NewIn
   delivered-new m free = tt
   delivered-new m internal = tt
-  delivered-new m proposal = if-ind (λ (x : Effect). NewIn s x.answer) (accepts (acceptor_of s m.addressee) m.set) _ _ (λ _. tt) (λ _. tt)
-  delivered-new m acknowledgement = if-ind (λ (x : Effect). NewIn s x.answer) (is_current (proposer_of s m.addressee) m.number) _ _ (λ _. tt) (λ _. tt)
-  delivered-new m rejection = if-ind (λ (x : Effect). NewIn s x.answer) (is_current (proposer_of s m.addressee) m.number) _ _ (λ _. tt) (λ _. tt)
-  delivered-new m announcement = if-ind (NewIn s) (learns z.acceptors (learner_of s m.addressee) m) _ Ok (λ h. learns-more z.acceptors (learner_of s m.addressee) m h) (λ _. tt)
+  delivered-new m proposal = if-ind (λ (x : Effect). NewIn s (Ok x.answer)) (accepts (acceptor_of s m.addressee) m.set) _ _ (λ _. tt) (λ _. tt)
+  delivered-new m acknowledgement = if-ind (λ (x : Effect). NewIn s (Ok x.answer)) (is_current (proposer_of s m.addressee) m.number) _ _ (λ _. tt) (λ _. tt)
+  delivered-new m rejection = if-ind (λ (x : Effect). NewIn s (Ok x.answer)) (is_current (proposer_of s m.addressee) m.number) _ _ (λ _. tt) (λ _. tt)
+  delivered-new m announcement = if-ind (λ (w : Answer). NewIn s (Ok w)) (learns z.acceptors (learner_of s m.addressee) m) _ Done (λ h. learns-more z.acceptors (learner_of s m.addressee) m h) (λ _. tt)
   delivered-new m no_kind = tt
 
 module _ (z : Sizes) (s : State) where
-  effect-new : (c : Code) (a b : ℕ) → NewIn s (effect z s c a b).answer
+  effect-new : (c : Code) (a b : ℕ) → NewIn s (Ok (effect z s c a b).answer)
   unfolding effect proposes NewIn
   effect-new receive a b = tt
   effect-new deliver a b = freed (delivery z (freeing s a) (slot_of s a) (kind_of (slot_of s a).kind)).answer (delivered-new z (freeing s a) (slot_of s a) (kind_of (slot_of s a).kind))
     where
-      freed : (w : Answer) → NewIn (freeing s a) w → NewIn s w
-      freed Ok h = tt
+      freed : (w : Answer) → NewIn (freeing s a) (Ok w) → NewIn s (Ok w)
+      freed Done h = tt
       freed (Learnt l v) h = h
       freed (Decided p v) h = tt
-      freed (Refused n) h = tt
   effect-new drop a b = tt
   effect-new duplicate a b = tt
   effect-new propose a b = tt
@@ -137,7 +142,7 @@ module _ (z : Sizes) (s : State) where
   effect-new crash a b = tt
   effect-new no_code a b = tt
 
-stepped-new : (s : State) (x : Effect) (n : ℕ) → NewIn s x.answer → NewIn s (stepped n s x).answer
+stepped-new : (s : State) (x : Effect) (n : ℕ) → NewIn s (Ok x.answer) → NewIn s (stepped n s x).answer
 unfolding stepped NewIn
 stepped-new s x zero h = h
 stepped-new s x (suc n) h = tt
@@ -149,22 +154,20 @@ step-new z s e = stepped-new s (does z s e) (step_no z s e) (effect-new z s (cod
 -- ---- together
 
 -- a refusal is not said to be learnt
-NotRefused : Answer → Type 0
-NotRefused Ok = Unit {0}
-NotRefused (Learnt l v) = Unit {0}
-NotRefused (Decided p v) = Unit {0}
-NotRefused (Refused n) = ⊥
+NotRefused : Answered → Type 0
+NotRefused (Ok w) = Unit {0}
+NotRefused (Err n) = ⊥
 
 stepped-accepted : (s : State) (x : Effect) (n : ℕ) → NotRefused (stepped n s x).answer → n ≡ 0
 unfolding stepped NotRefused
 stepped-accepted s x zero h = refl
 stepped-accepted s x (suc n) h = absurd h
 
-learner_in : Answer → ℕ
-learner_in Ok = 0
-learner_in (Learnt l v) = l.0
-learner_in (Decided p v) = 0
-learner_in (Refused n) = 0
+learner_in : Answered → ℕ
+learner_in (Ok Done) = 0
+learner_in (Ok (Learnt l v)) = l.0
+learner_in (Ok (Decided p v)) = 0
+learner_in (Err n) = 0
 
 pub tells-learnt : (z : Sizes) (s : State) (e : Event) → TellsLearnt z s e
 unfolding step NotRefused NewIn learner_in
@@ -178,6 +181,6 @@ tells-learnt z s e = record {
   ];
   said = λ l n. elim (step_stays z s e l.0) [
     | inl q ↦ absurd (n q)
-    | inr q ↦ q.1 ∙ ap (Learnt l) (sym (learnt-left z s e l q.0 q.1))
+    | inr q ↦ q.1 ∙ ap (λ (u : Scans). Ok (Learnt l u)) (sym (learnt-left z s e l q.0 q.1))
   ];
 }

@@ -7,14 +7,13 @@ use native.Mathlib.Omega.{arith}
 use lib.Dec.{eqb}
 use lib.ListN.{length, get_or, take, drop}
 use lib.Seq.{take_at, drop_at, get_or-drop, take-append_seam}
-use Rattle.std.specs.Prelude.{if◌then◌else◌}
+use Rattle.std.specs.Prelude.{if◌then◌else◌, Ok}
 use Rattle.sizes.specs.declared.Sizes.{Sizes}
 use Rattle.model.specs.Records.{State, fresh}
-use Rattle.model.specs.Step.{step, run, answers}
+use Rattle.model.specs.Step.{Answered, step, run, answers}
 use Rattle.model.specs.Safety.{moment}
 use Rattle.model.specs.declared.Event.{Event}
-use Rattle.model.specs.declared.Answer.{Answer}
-use Rattle.model.specs.declared.Answer.TheVariants.{Ok}
+use Rattle.model.specs.declared.Answer.TheVariants.{Done}
 use Rattle.model.proofs.Moments.{last}
 use Rattle.machine.specs.Log.{said, logged}
 use Rattle.machine.specs.Calls.{events_in, run_no, StepCall, RunCall}
@@ -42,7 +41,7 @@ begins (ran fs t u ns n log log' r g c) = begins-on (done_by r ns n) (begins g)
 answers-on : (z : Sizes) (s : State) (es fs : List Event) → answers z s (es ++ fs) ≡ answers z s es ++ answers z (run z s es) fs
 unfolding answers run
 answers-on z s [] fs = refl
-answers-on z s (e ∷ es) fs = ap (λ (l : List Answer). (step z s e).answer ∷ l) (answers-on z (step z s e).state es fs)
+answers-on z s (e ∷ es) fs = ap (λ (l : List Answered). (step z s e).answer ∷ l) (answers-on z (step z s e).state es fs)
 
 -- a refused run did no event and logged nothing
 log-by : (z : Sizes) (s : State) (ns : List ℕ) (n : ℕ) (log : List ℕ) (b : Bool)
@@ -74,15 +73,15 @@ module _ (z : Sizes) (es : List Event) (s : State) (h : History z es s) where
   unfolding moment
   seen-then g = now-run ∙ ap (run z (fresh z)) (sym (ap (take (length es)) (begins g).whole ∙ take-append_seam es (begins g).later))
 
-  told-then : (e : Event) (r : Answer) (u : State) → StepCall z s e r u → {fs : List Event} {t : State} → GoesOn z (es ++ (e ∷ [])) u fs t
-      → get_or (answers z (fresh z) fs) (length es) Ok ≡ r
+  told-then : (e : Event) (r : Answered) (u : State) → StepCall z s e r u → {fs : List Event} {t : State} → GoesOn z (es ++ (e ∷ [])) u fs t
+      → get_or (answers z (fresh z) fs) (length es) (Ok Done) ≡ r
   unfolding answers
   told-then e r u c {fs} g =
       let at : length es + 0 ≡ length es = omega arith in
       let ws = answers z (fresh z) fs in
-      ap (λ (n : ℕ). get_or ws n Ok) (sym at)
-      ∙ sym (get_or-drop (length es) ws 0 Ok)
-      ∙ ap (λ (l : List Answer). get_or l 0 Ok) (answers-then (e ∷ []) g)
+      ap (λ (n : ℕ). get_or ws n (Ok Done)) (sym at)
+      ∙ sym (get_or-drop (length es) ws 0 (Ok Done))
+      ∙ ap (λ (l : List Answered). get_or l 0 (Ok Done)) (answers-then (e ∷ []) g)
       ∙ sym c.0
 
   logged_then : (ns : List ℕ) (n : ℕ) (log log' : List ℕ) (r : ℕ) (u : State) → RunCall z s ns n log r u log'
@@ -93,7 +92,7 @@ module _ (z : Sizes) (es : List Event) (s : State) (h : History z es s) where
       c.1.1
       ∙ log-by z s ns n log (eqb (run_no z s ns n log) 0)
       ∙ ap (λ (k : ℕ). logged (answers z s (done_by k ns n)) log) (sym c.0)
-      ∙ ap (λ (ws : List Answer). logged ws log)
+      ∙ ap (λ (ws : List Answered). logged ws log)
       (sym (ap (take (length ds)) (answers-then ds g) ∙ take_at (answers z s ds) (answers z (run z s ds) (begins g).later) (length ds) (length-answers z s ds)))
 
 pub calls-recall : (z : Sizes) (es : List Event) (s : State) → History z es s → Recalls z es s

@@ -5,7 +5,7 @@ use Prim.Native.Nat.{ℕ}
 use Rattle.sizes.specs.declared.Sizes.{Sizes}
 use Rattle.model.specs.Records.{State}
 use Rattle.model.specs.declared.Event.{Event}
-use Rattle.model.specs.declared.Answer.{Answer}
+use Rattle.model.specs.Step.{Answered}
 use Rattle.machine.specs.declared.calls.Said.{Said}
 use Rattle.machine.specs.Calls.{Leaves, FreshCall, StepCall, SaidCall, RunCall, WholeRunCall}
 
@@ -25,7 +25,7 @@ one_state l l' = λ i. record {
 pub one-fresh : (z : Sizes) (s : State) {r r' : ℕ} {t t' : State} → FreshCall z s r t → FreshCall z s r' t' → (r ≡ r') × (t ≡ t')
 one-fresh z s c c' = (one_value c.0 c'.0, one_state c.1 c'.1)
 
-pub one-step : (z : Sizes) (s : State) (e : Event) {r r' : Answer} {t t' : State} → StepCall z s e r t → StepCall z s e r' t' → (r ≡ r') × (t ≡ t')
+pub one-step : (z : Sizes) (s : State) (e : Event) {r r' : Answered} {t t' : State} → StepCall z s e r t → StepCall z s e r' t' → (r ≡ r') × (t ≡ t')
 one-step z s e c c' = (one_value c.0 c'.0, one_state c.1.1 c'.1.1)
 
 pub one-said : (z : Sizes) (s : State) (e : Event) {r r' : Said} {t t' : State} → SaidCall z s e r t → SaidCall z s e r' t' → (r ≡ r') × (t ≡ t')

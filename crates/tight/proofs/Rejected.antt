@@ -9,6 +9,7 @@ use lib.Dec.{leb}
 use lib.ListN.{length, take, drop}
 use lib.Seq.{sets-eq, take-append_seam}
 use borrow.Author.Tests.{le-leb, leb-true, leb-false}
+use Rattle.std.specs.Prelude.{Ok, Err}
 use Rattle.sizes.specs.Sizes.{sizes_in_range}
 use Rattle.sizes.specs.declared.Sizes.{Sizes}
 use Rattle.sets.specs.Scans.{only, holds}
@@ -17,14 +18,13 @@ use Rattle.forms.specs.Forms.{FormRead, read_as, unread}
 use Rattle.schedule.specs.Schedule.{read_schedule}
 use Rattle.schedule.specs.declared.Header.{Header}
 use Rattle.text.specs.Words.{bytes}
-use Rattle.text.specs.Digits.{decimal_of, hex_of}
+use Rattle.text.specs.Digits.{decimal_of, digits_of}
 use Rattle.model.specs.Records.{State, fresh, learner_of}
 use Rattle.model.specs.Table.{from}
 use Rattle.model.specs.Ranges.{records_in_range}
-use Rattle.model.specs.Step.{step, run, answers}
+use Rattle.model.specs.Step.{Answered, step, run, answers}
 use Rattle.model.specs.declared.Event.{Event}
-use Rattle.model.specs.declared.Answer.{Answer}
-use Rattle.model.specs.declared.Answer.TheVariants.{Ok, Learnt, Decided, Refused}
+use Rattle.model.specs.declared.Answer.TheVariants.{Done, Learnt, Decided}
 use Rattle.model.proofs.Lists.{All, none, also}
 use Rattle.model.proofs.Answers.{Named, all_named}
 use Rattle.model.proofs.Computing.{the_sets, the_step, settled_run, run_settled}
@@ -73,14 +73,14 @@ module _ (f : StepProgram) (k : StepKept f) (z : Sizes) where
 -- ---- the example
 
 -- what document 01 says of its events
-abbrev learnt : Answer
-learnt = Learnt (record { 0 = 0 }) (only 0)
+abbrev learnt : Answered
+learnt = Ok (Learnt (record { 0 = 0 }) (only 0))
 
-abbrev decided : Answer
-decided = Decided (record { 0 = 0 }) (only 0)
+abbrev decided : Answered
+decided = Ok (Decided (record { 0 = 0 }) (only 0))
 
-abbrev seven : List Answer
-seven = Ok ∷ Ok ∷ Ok ∷ Refused 6 ∷ learnt ∷ Ok ∷ decided ∷ []
+abbrev seven : List Answered
+seven = Ok Done ∷ Ok Done ∷ Ok Done ∷ Err 6 ∷ learnt ∷ Ok Done ∷ decided ∷ []
 
 run-says : answers small (fresh small) (events_in numbers 7) ≡ seven
 unfolding from
@@ -90,7 +90,7 @@ all-seven : All (Named small) seven
 all-seven = subst (All (Named small)) run-says (all_named small (fresh small) (events_in numbers 7))
 
 small-seven : All Small seven
-small-seven = also tt (also tt (also tt (also {x = Refused 6} (omega arith, omega arith) (also {x = learnt} (omega arith) (also tt (also {x = decided} (omega arith) none))))))
+small-seven = also tt (also tt (also tt (also {x = Err 6} (omega arith, omega arith) (also {x = learnt} (omega arith) (also tt (also {x = decided} (omega arith) none))))))
 
 -- where there is room for their answers
 module _ (log : List ℕ) (h : per_answer * 7 ≤ length log) where
@@ -136,30 +136,30 @@ module _ (f : PrintProgram) (k : PrintKept f) (buffer : List ℕ) where
       (shown_by (text bytes) buffer (leb (0 + length (text bytes)) (length buffer)) refl)
 
   -- a text of a run is the whole text
-  run-shown : (bytes : List ℕ) (s : ℕ) (ws : List Answer) (a b c : ℕ) → printed (f buffer bytes) ≡ lines_from s 1 ws ++ end_with a b c → text bytes ≡ lines_from s 1 ws ++ end_with a b c
+  run-shown : (bytes : List ℕ) (s : ℕ) (ws : List Answered) (a b c : ℕ) → printed (f buffer bytes) ≡ lines_from s 1 ws ++ end_with a b c → text bytes ≡ lines_from s 1 ws ++ end_with a b c
   run-shown bytes s ws a b c e = elim (text-shown bytes) [
     | inl h ↦ absurd (nothing-no-run s ws a b c (sym h ∙ e))
     | inr h ↦ sym h ∙ e
   ]
 
 -- its last line is that of its lines
-counts-true : (o : FormRead Header) (s : ℕ) (ws : List Answer) (a b c : ℕ) → text_of_read o ≡ lines_from s 1 ws ++ end_with a b c → end_with a b c ≡ end_line ws
+counts-true : (o : FormRead Header) (s : ℕ) (ws : List Answered) (a b c : ℕ) → text_of_read o ≡ lines_from s 1 ws ++ end_with a b c → end_with a b c ≡ end_line ws
 unfolding text_of_read
 counts-true (read_as h fields) s ws a b c e =
     let z = h.sizes in
     (one-text z (all_named z (fresh z) (events_in fields h.events)) s ws a b c (sym e)).1
-counts-true (unread r) s ws a b c e = absurd (refusal-no-run r.no s ws a b c e)
+counts-true (unread r) s ws a b c e = absurd (refusal-no-run r s ws a b c e)
 
 example-says : text example ≡ run_text small.scans seven
-unfolding the_sets set_width set_text lines lines_from ok_count refused_count run_text decimal_of hex_of bytes
+unfolding the_sets set_width set_text lines lines_from ok_count refused_count run_text decimal_of digits_of bytes
 example-says = example-text
 
 -- ---- what is said, and what is left
 
-is-alike : {ws us : List Answer} → ws ≡ us → Alike ws us
+is-alike : {ws us : List Answered} → ws ≡ us → Alike ws us
 is-alike e = record { same = ap (map _) e }
 
-says-seven : {ws : List Answer} → Says ws → Alike ws seven
+says-seven : {ws : List Answered} → Says ws → Alike ws seven
 says-seven (Says.by_steps f k) = is-alike (steps-say f k small (fresh small) (events_in numbers 7) ∙ run-says)
 says-seven (Says.by_run f k log h) =
     is-alike (ap (λ (l : List ℕ). answers_in l 7) ((k small (fresh small) numbers 7 log).1.1 ∙ run-log log h) ∙ logged-back log h)
@@ -202,17 +202,17 @@ later-refused = refl
 
 -- ---- the five
 
-pub refuses-every-rejected : (ws : List Answer) → Says ws → RefusesEvery ws → ⊥
+pub refuses-every-rejected : (ws : List Answered) → Says ws → RefusesEvery ws → ⊥
 refuses-every-rejected ws x h = omega (arith, ok_same (says-seven x), six-ok)
 
-pub always-ok-rejected : (ws : List Answer) → Says ws → AlwaysOk ws → ⊥
+pub always-ok-rejected : (ws : List Answered) → Says ws → AlwaysOk ws → ⊥
 always-ok-rejected ws x h = omega (arith, refused-same (says-seven x), one-refused)
 
 pub changes-nothing-rejected : (t : State) → LeftBehind t → ChangesNothing t → ⊥
 changes-nothing-rejected t x h = false≢true (sym fresh-not ∙ ap learnt₀ (sym h ∙ leaves_run x) ∙ seven-has)
 
 -- in what it says, and in what it leaves
-pub pretends-rejected : ((ws : List Answer) → Says ws → PretendsOk ws → ⊥) × ((t : State) → LeftBehind t → PretendsDone t → ⊥)
+pub pretends-rejected : ((ws : List Answered) → Says ws → PretendsOk ws → ⊥) × ((t : State) → LeftBehind t → PretendsDone t → ⊥)
 pretends-rejected = (
   λ ws x h. omega (arith, refused-same (later-alike (says-seven x)), later-refused),
   λ t x h. false≢true (sym first-not ∙ ap learnt₀ (sym h ∙ leaves_run x) ∙ seven-has),

@@ -8,17 +8,16 @@ use native.Mathlib.Omega.{arith}
 use lib.Dec.{eqb, ltb}
 use lib.ListN.{length, get_or, drop, length-map}
 use borrow.Author.Tests.{ltb-true, lt-ltb, ne_eqb}
-use Rattle.std.specs.Prelude.{if◌then◌else◌}
+use Rattle.std.specs.Prelude.{if◌then◌else◌, Ok, Err}
 use Rattle.choice.proofs.Tests.{if-ind}
 use Rattle.text.specs.Words.{bytes}
-use Rattle.text.specs.Digits.{digit, decimal_of, decimal, hex_of}
+use Rattle.text.specs.Digits.{digit, digits_of, decimal_of, decimal, hex_of}
 use Rattle.text.proofs.DigitLaws.{decimal-last, decimal-some}
 use Rattle.sets.specs.Scans.{first_word}
 use Rattle.sets.specs.declared.scans.Scans.{Scans}
 use Rattle.sizes.specs.declared.Sizes.{Sizes}
-use Rattle.model.specs.Step.{answer_no}
-use Rattle.model.specs.declared.Answer.{Answer}
-use Rattle.model.specs.declared.Answer.TheVariants.{Ok, Learnt, Decided, Refused}
+use Rattle.model.specs.Step.{Answered, answer_no}
+use Rattle.model.specs.declared.Answer.TheVariants.{Done, Learnt, Decided}
 use Rattle.model.proofs.Lists.{All, none, also}
 use Rattle.model.proofs.Answers.{Named, names_none, names_learner, names_proposer, names_refusal}
 use Rattle.printer.specs.Text.{set_width, set_text, ok_line, set_line, lines, lines_from, ok_count, refused_count, end_with, end_line, run_text, refused_text}
@@ -97,7 +96,7 @@ decimal-digits (suc n) x =
     (λ _. all_append (decimal-digits n (x / 10)) (also (digit-is (x % 10) (omega arith)) none))
 
 hex-digits : (n x : ℕ) → All (λ (d : ℕ). 48 ≤ d) (hex_of n x)
-unfolding hex_of
+unfolding digits_of
 hex-digits zero x = none
 hex-digits (suc n) x = all_append (hex-digits n (x / 16)) (also (digit-least (x % 16)) none)
 
@@ -179,20 +178,20 @@ ok-line at = joined (the-place at) ok-word
 set_line_lem : (s at : ℕ) (name : List ℕ) (party : ℕ) (v : Scans) → Reads place name [] rest → Reads begin (set_line s at name party v) [] begin
 set_line_lem s at name party v h = joined (joined (joined (joined (joined (the-place at) h) (the-party party)) space) (the-set s v)) line-end
 
-mark : Answer → ℕ
-mark Ok = 0
-mark (Learnt l v) = 0
-mark (Decided p v) = 0
-mark (Refused n) = get_or (decimal n) 0 0
+mark : Answered → ℕ
+mark (Ok Done) = 0
+mark (Ok (Learnt l v)) = 0
+mark (Ok (Decided p v)) = 0
+mark (Err n) = get_or (decimal n) 0 0
 
-event-lines : (s at : ℕ) (w : Answer) → Reads begin (lines s at w) (mark w ∷ []) begin
+event-lines : (s at : ℕ) (w : Answered) → Reads begin (lines s at w) (mark w ∷ []) begin
 unfolding lines mark
-event-lines s at Ok = ok-line at
-event-lines s at (Learnt l v) = joined (ok-line at) (set_line_lem s at (bytes " learnt ") l.0 v learnt-word)
-event-lines s at (Decided p v) = joined (ok-line at) (set_line_lem s at (bytes " decided ") p.0 v decided-word)
-event-lines s at (Refused n) = joined (joined (joined (the-place at) refused-word) (the-refusal n)) line-end
+event-lines s at (Ok Done) = ok-line at
+event-lines s at (Ok (Learnt l v)) = joined (ok-line at) (set_line_lem s at (bytes " learnt ") l.0 v learnt-word)
+event-lines s at (Ok (Decided p v)) = joined (ok-line at) (set_line_lem s at (bytes " decided ") p.0 v decided-word)
+event-lines s at (Err n) = joined (joined (joined (the-place at) refused-word) (the-refusal n)) line-end
 
-all_lines : (s at : ℕ) (ws : List Answer) → Reads begin (lines_from s at ws) (map mark ws) begin
+all_lines : (s at : ℕ) (ws : List Answered) → Reads begin (lines_from s at ws) (map mark ws) begin
 unfolding lines_from adding
 all_lines s at [] = record { reads = λ xs. refl }
 all_lines s at (w ∷ ws) = joined (event-lines s at w) (all_lines s (suc at) ws)
@@ -203,7 +202,7 @@ end_read : (a b c : ℕ) → reading begin (end_with a b c) ≡ record { marks =
 unfolding reading noting bytes
 end_read a b c = refl
 
-run-read : (s : ℕ) (ws : List Answer) (a b c : ℕ) → reading begin (lines_from s 1 ws ++ end_with a b c) ≡ record { marks = map mark ws; last = end_with a b c }
+run-read : (s : ℕ) (ws : List Answered) (a b c : ℕ) → reading begin (lines_from s 1 ws ++ end_with a b c) ≡ record { marks = map mark ws; last = end_with a b c }
 unfolding adding
 run-read s ws a b c =
     (all_lines s 1 ws).reads (end_with a b c)
@@ -220,46 +219,46 @@ unfolding reading adding
 refusal-read n = ap (λ (t : List ℕ). (reading begin t).last) (sym (append-nil (refused_text n))) ∙ ap (λ (r : Reading). r.last) ((refusal-text n).reads [])
 
 -- what has no last line is no text of a run
-no_run : (t : List ℕ) → (reading begin t).last ≡ [] → (s : ℕ) (ws : List Answer) (a b c : ℕ) → t ≡ lines_from s 1 ws ++ end_with a b c → ⊥
+no_run : (t : List ℕ) → (reading begin t).last ≡ [] → (s : ℕ) (ws : List Answered) (a b c : ℕ) → t ≡ lines_from s 1 ws ++ end_with a b c → ⊥
 unfolding bytes
 no_run t h s ws a b c e =
     let q : end_with a b c ≡ [] = sym (ap (λ (r : Reading). r.last) (ap (reading begin) e ∙ run-read s ws a b c)) ∙ h in
     let x : ◌≡◌ {A = ℕ} 101 0 = ap (λ (l : List ℕ). get_or l 0 0) q in
     omega arith
 
-pub refusal-no-run : (n s : ℕ) (ws : List Answer) (a b c : ℕ) → refused_text n ≡ lines_from s 1 ws ++ end_with a b c → ⊥
+pub refusal-no-run : (n s : ℕ) (ws : List Answered) (a b c : ℕ) → refused_text n ≡ lines_from s 1 ws ++ end_with a b c → ⊥
 refusal-no-run n = no_run (refused_text n) (refusal-read n)
 
-pub nothing-no-run : (s : ℕ) (ws : List Answer) (a b c : ℕ) → [] ≡ lines_from s 1 ws ++ end_with a b c → ⊥
+pub nothing-no-run : (s : ℕ) (ws : List Answered) (a b c : ℕ) → [] ≡ lines_from s 1 ws ++ end_with a b c → ⊥
 unfolding reading
 nothing-no-run = no_run [] refl
 
 -- ---- marks say which events are ok
 
-abbrev verdicts : List Answer → List Bool
-verdicts ws = map (λ (w : Answer). eqb (answer_no w) 0) ws
+abbrev verdicts : List Answered → List Bool
+verdicts ws = map (λ (w : Answered). eqb (answer_no w) 0) ws
 
 first-least : {ds : List ℕ} → All Digit ds → 1 ≤ length ds → 48 ≤ get_or ds 0 0
 first-least none h = absurd (omega arith)
 first-least (also q a) h = q.0
 
 -- any answer
-some-mark : (w : Answer) → ((mark w ≡ 0) × (answer_no w ≡ 0)) ⊎ ((48 ≤ mark w) × (answer_no w ≡ 0 → mark w ≡ 48))
+some-mark : (w : Answered) → ((mark w ≡ 0) × (answer_no w ≡ 0)) ⊎ ((48 ≤ mark w) × (answer_no w ≡ 0 → mark w ≡ 48))
 unfolding mark decimal_of
-some-mark Ok = inl (refl, refl)
-some-mark (Learnt l v) = inl (refl, refl)
-some-mark (Decided p v) = inl (refl, refl)
-some-mark (Refused n) = inr (first-least (decimal-digits 20 n) (decimal-some 19 n), λ e. ap (λ (k : ℕ). get_or (decimal k) 0 0) e)
+some-mark (Ok Done) = inl (refl, refl)
+some-mark (Ok (Learnt l v)) = inl (refl, refl)
+some-mark (Ok (Decided p v)) = inl (refl, refl)
+some-mark (Err n) = inr (first-least (decimal-digits 20 n) (decimal-some 19 n), λ e. ap (λ (k : ℕ). get_or (decimal k) 0 0) e)
 
 -- an answer of a run: its refusals are 1 to 8
-named-mark : (z : Sizes) (u : Answer) → Named z u → ((mark u ≡ 0) × (answer_no u ≡ 0)) ⊎ ((mark u ≡ 48 + answer_no u) × (1 ≤ answer_no u))
+named-mark : (z : Sizes) (u : Answered) → Named z u → ((mark u ≡ 0) × (answer_no u ≡ 0)) ⊎ ((mark u ≡ 48 + answer_no u) × (1 ≤ answer_no u))
 unfolding mark
-named-mark z Ok names_none = inl (refl, refl)
-named-mark z (Learnt l v) (names_learner i) = inl (refl, refl)
-named-mark z (Decided p v) (names_proposer i) = inl (refl, refl)
-named-mark z (Refused n) (names_refusal l m) = inr (ap (λ (ds : List ℕ). get_or ds 0 0) (decimal-last 19 n (omega arith)) ∙ rw (lt-ltb n 10 (omega arith)), l)
+named-mark z (Ok Done) names_none = inl (refl, refl)
+named-mark z (Ok (Learnt l v)) (names_learner i) = inl (refl, refl)
+named-mark z (Ok (Decided p v)) (names_proposer i) = inl (refl, refl)
+named-mark z (Err n) (names_refusal l m) = inr (ap (λ (ds : List ℕ). get_or ds 0 0) (decimal-last 19 n (omega arith)) ∙ rw (lt-ltb n 10 (omega arith)), l)
 
-same-verdict : (z : Sizes) (w u : Answer) → Named z u → mark w ≡ mark u → eqb (answer_no w) 0 ≡ eqb (answer_no u) 0
+same-verdict : (z : Sizes) (w u : Answered) → Named z u → mark w ≡ mark u → eqb (answer_no w) 0 ≡ eqb (answer_no u) 0
 same-verdict z w u n e = by (some-mark w) (named-mark z u n)
   where
     by : ((mark w ≡ 0) × (answer_no w ≡ 0)) ⊎ ((48 ≤ mark w) × (answer_no w ≡ 0 → mark w ≡ 48)) → ((mark u ≡ 0) × (answer_no u ≡ 0)) ⊎ ((mark u ≡ 48 + answer_no u) × (1 ≤ answer_no u)) → eqb (answer_no w) 0 ≡ eqb (answer_no u) 0
@@ -268,7 +267,7 @@ same-verdict z w u n e = by (some-mark w) (named-mark z u n)
     by (inr a) (inl b) = absurd (omega (arith, a.0, b.0))
     by (inr a) (inr b) = ne_eqb (answer_no w) 0 (λ q. omega (arith, a.1 q, b.0, b.1)) ∙ sym (ne_eqb (answer_no u) 0 (λ q. omega (arith, b.1)))
 
-same-verdicts : (z : Sizes) {us : List Answer} → All (Named z) us → (ws : List Answer) → map mark ws ≡ map mark us → verdicts ws ≡ verdicts us
+same-verdicts : (z : Sizes) {us : List Answered} → All (Named z) us → (ws : List Answered) → map mark ws ≡ map mark us → verdicts ws ≡ verdicts us
 same-verdicts z none [] e = refl
 same-verdicts z none (w ∷ ws) e = absurd (let l : suc (length (map mark ws)) ≡ 0 = ap length e in omega arith)
 same-verdicts z (also {x = u} {xs = us} n ns) [] e = absurd (let l : 0 ≡ suc (length (map mark us)) = ap length e in omega arith)
@@ -285,21 +284,21 @@ nos : List Bool → ℕ
 nos [] = 0
 nos (b ∷ bs) = if b then nos bs else suc (nos bs)
 
-ok_of : (ws : List Answer) → ok_count ws ≡ oks (verdicts ws)
+ok_of : (ws : List Answered) → ok_count ws ≡ oks (verdicts ws)
 unfolding ok_count oks
 ok_of [] = refl
 ok_of (w ∷ ws) = rw (ok_of ws)
 
-refused-of : (ws : List Answer) → refused_count ws ≡ nos (verdicts ws)
+refused-of : (ws : List Answered) → refused_count ws ≡ nos (verdicts ws)
 unfolding refused_count nos
 refused-of [] = refl
 refused-of (w ∷ ws) = rw (refused-of ws)
 
 -- two lists of answers say the same of each event: ok, or not
-pub record Alike (ws us : List Answer) : Type 0 where
-  pub same : map (λ (w : Answer). eqb (answer_no w) 0) ws ≡ map (λ (w : Answer). eqb (answer_no w) 0) us
+pub record Alike (ws us : List Answered) : Type 0 where
+  pub same : map (λ (w : Answered). eqb (answer_no w) 0) ws ≡ map (λ (w : Answered). eqb (answer_no w) 0) us
 
-module _ {ws us : List Answer} (e : Alike ws us) where
+module _ {ws us : List Answered} (e : Alike ws us) where
   pub ok_same : ok_count ws ≡ ok_count us
   ok_same = ok_of ws ∙ ap oks e.same ∙ sym (ok_of us)
 
@@ -311,15 +310,15 @@ module _ {ws us : List Answer} (e : Alike ws us) where
       let l : length ws ≡ length us = sym (length-map ws _) ∙ ap length e.same ∙ length-map us _ in
       rw (l, ok_same, refused-same)
 
-later-verdicts : (ws : List Answer) → verdicts (drop 1 ws) ≡ drop 1 (verdicts ws)
+later-verdicts : (ws : List Answered) → verdicts (drop 1 ws) ≡ drop 1 (verdicts ws)
 later-verdicts [] = refl
 later-verdicts (w ∷ ws) = refl
 
-pub later-alike : {ws us : List Answer} → Alike ws us → Alike (drop 1 ws) (drop 1 us)
+pub later-alike : {ws us : List Answered} → Alike ws us → Alike (drop 1 ws) (drop 1 us)
 later-alike {ws} {us} e = record { same = later-verdicts ws ∙ ap (drop 1) e.same ∙ sym (later-verdicts us) }
 
 -- lines, of whatever number of scans, and a last line that are a run's text: the lines say of each event what the run says, and the last line is theirs
-pub one-text : (z : Sizes) {us : List Answer} → All (Named z) us → (s : ℕ) (ws : List Answer) (a b c : ℕ) → lines_from s 1 ws ++ end_with a b c ≡ run_text z.scans us
+pub one-text : (z : Sizes) {us : List Answered} → All (Named z) us → (s : ℕ) (ws : List Answered) (a b c : ℕ) → lines_from s 1 ws ++ end_with a b c ≡ run_text z.scans us
     → Alike ws us × (end_with a b c ≡ end_line ws)
 unfolding run_text
 one-text z {us} n s ws a b c e =

@@ -1,13 +1,11 @@
 -- Document 01, "How tight the statements are": programs of the step, the run, the whole run and the printer, what it is to keep the call's promise, and the five that have to be rejected. They are looked at on document 01's example.
-use Rattle.std.specs.Prelude.{◌≡◌, List, [], ◌∷◌, ◌++◌, ℕ, ◌*◌, ◌≤◌, length, take, drop}
+use Rattle.std.specs.Prelude.{◌≡◌, List, [], ◌∷◌, ◌++◌, ℕ, ◌*◌, ◌≤◌, length, take, drop, Ok, Err}
 use Rattle.sizes.specs.declared.Sizes.{Sizes}
-use Rattle.numbers.specs.Coding.{written_no}
-use Rattle.numbers.specs.declared.Written.{Written}
-use Rattle.numbers.specs.declared.Written.TheVariants as written
+use Rattle.choice.specs.Refusals.{no_in}
+use Rattle.numbers.specs.Coding.{Written}
 use Rattle.model.specs.Records.{State, fresh}
-use Rattle.model.specs.Step.{Stepped, run}
+use Rattle.model.specs.Step.{Answered, Stepped, run}
 use Rattle.model.specs.declared.Event.{Event}
-use Rattle.model.specs.declared.Answer.{Answer}
 use Rattle.machine.specs.Log.{per_answer, answers_in}
 use Rattle.machine.specs.Calls.{events_in, StepCall, RunCall, WholeRunCall}
 use Rattle.printer.specs.Text.{lines_from, ok_count, refused_count, end_with, end_line, text_written_no, text_written, after_text}
@@ -60,7 +58,7 @@ abbrev pub PrintKept : PrintProgram → Type 0
 PrintKept f = (buffer bytes : List ℕ)
     → ((f buffer bytes).answer ≡ text_written (text bytes) buffer)
     × ((f buffer bytes).buffer ≡ after_text (text bytes) buffer)
-    × (written_no (f buffer bytes).answer ≡ text_written_no (text bytes) buffer)
+    × (no_in (f buffer bytes).answer ≡ text_written_no (text bytes) buffer)
 
 -- ---- document 01's example
 
@@ -78,7 +76,7 @@ example = 2 ∷ 1 ∷ 1 ∷ 16 ∷ 2 ∷ 7 ∷ numbers
 -- ---- what programs that keep their promises say of the example's events
 
 -- one step after the other
-unfoldable pub said_by : StepProgram → Sizes → State → List Event → List Answer
+unfoldable pub said_by : StepProgram → Sizes → State → List Event → List Answered
 said_by f z s [] = []
 said_by f z s (e ∷ es) = (f z s e).answer ∷ said_by f z (f z s e).state es
 
@@ -88,18 +86,18 @@ left_by f z s (e ∷ es) = left_by f z (f z s e).state es
 
 -- what was printed: nothing where the buffer was refused
 abbrev pub shown : Written → List ℕ → List ℕ
-shown (written.Next n) buffer = take n buffer
-shown (written.Refused r) buffer = []
+shown (Ok n) buffer = take n buffer
+shown (Err r) buffer = []
 
 abbrev pub printed : PrintLeft → List ℕ
 printed p = shown p.answer p.buffer
 
 -- what the seven events are said to be: by seven steps, by the log of a run or of a whole run, or by a printed text's lines, of whatever number of scans and whatever its last line counts
-pub data Says : List Answer → Type 0 where
+pub data Says : List Answered → Type 0 where
   by_steps : (f : StepProgram) → StepKept f → Says (said_by f small (fresh small) (events_in numbers 7))
   by_run : (f : RunProgram) → RunKept f → (log : List ℕ) → per_answer * 7 ≤ length log → Says (answers_in (f small (fresh small) numbers 7 log).log 7)
   by_whole_run : (f : WholeRunProgram) → WholeRunKept f → (log : List ℕ) → per_answer * 7 ≤ length log → Says (answers_in (f small numbers 7 log).log 7)
-  by_text : (f : PrintProgram) → PrintKept f → (buffer : List ℕ) (s : ℕ) (ws : List Answer) (events ok refused : ℕ)
+  by_text : (f : PrintProgram) → PrintKept f → (buffer : List ℕ) (s : ℕ) (ws : List Answered) (events ok refused : ℕ)
       → printed (f buffer example) ≡ lines_from s 1 ws ++ end_with events ok refused → Says ws
 
 -- the records that the seven events leave: by seven steps, or by a run
@@ -110,11 +108,11 @@ pub data LeftBehind : State → Type 0 where
 -- ---- the five programs
 
 -- none of the events is ok
-abbrev pub RefusesEvery : List Answer → Type 0
+abbrev pub RefusesEvery : List Answered → Type 0
 RefusesEvery ws = ok_count ws ≡ 0
 
 -- none of the events is refused
-abbrev pub AlwaysOk : List Answer → Type 0
+abbrev pub AlwaysOk : List Answered → Type 0
 AlwaysOk ws = refused_count ws ≡ 0
 
 -- the records are fresh as they were
@@ -122,7 +120,7 @@ abbrev pub ChangesNothing : State → Type 0
 ChangesNothing t = t ≡ fresh small
 
 -- after the first event all are said to be ok
-abbrev pub PretendsOk : List Answer → Type 0
+abbrev pub PretendsOk : List Answered → Type 0
 PretendsOk ws = refused_count (drop 1 ws) ≡ 0
 
 -- the records are those that the first event, truly done, leaves
@@ -132,7 +130,7 @@ PretendsDone t = t ≡ run small (fresh small) (events_in numbers 1)
 -- a text's last line is not that of the lines before it
 pub record InventsCounts (t : List ℕ) : Type 0 where
   pub scans : ℕ
-  pub said : List Answer
+  pub said : List Answered
   pub events : ℕ
   pub ok : ℕ
   pub refused : ℕ

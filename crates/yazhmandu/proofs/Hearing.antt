@@ -2,9 +2,9 @@
 use mathlib.Core.Bool.{Bool, true, false}
 use mathlib.Core.List.{List}
 use mathlib.Core.Logic.{◌⊎◌, ⊎_elim}
-use mathlib.Core.Path.{◌≡◌, refl, sym, ap, ◌∙◌}
+use mathlib.Core.Path.{◌≡◌, sym, ap, ◌∙◌}
 use Prim.Native.Nat.{ℕ, ◌<◌}
-use lib.Dec.{eqb, ltb}
+use lib.Dec.{ltb}
 use lib.ListN.{set}
 use lib.Seq.{sets}
 use mir.Val.{bool_byte}
@@ -51,66 +51,39 @@ module _ (p a s : ℕ) (kept : List ℕ) (b : AreBytes kept) (e : is_learner p a
 
 -- ---- what it gives
 
-module _ (p a s : ℕ) (kept : List ℕ) (proposer acceptor number : ℕ) (set : List ℕ) (old : ℕ) where
-  -- hearing gives n, and leaves the record b and the mark m
-  abbrev pub Hears : ℕ → List ℕ → ℕ → Type 0
-  Hears n b m =
-      (n ≡ hear_no p a s kept proposer acceptor number set)
-      × (b ≡ hear_record p a s kept proposer acceptor number set)
-      × (m ≡ hear_learns p a s kept proposer acceptor number set old)
+module _ (p a s : ℕ) (kept : List ℕ) (proposer acceptor number : ℕ) (set : List ℕ) where
+  -- what is known where all tests are passed, of the set that is sent too
+  abbrev pub Passed : Scans → Type 0
+  Passed told =
+      (is_learner p a s kept ≡ true)
+      × (ltb proposer p ≡ true)
+      × (is_answer a acceptor number ≡ true)
+      × (is_set s set ≡ true)
+      × (flag_at kept 0 ≡ true)
+      × (told ≡ set_at set 0)
 
-  -- a refusal leaves both
-  hear-refused : (n : ℕ) → eqb n 0 ≡ false → hear_no p a s kept proposer acceptor number set ≡ n → Hears n kept old
-  unfolding hear_record hear_learns
-  hear-refused n z e = (sym e, rw (e, z), rw (e, z))
+  module _ (old : ℕ) where
+    -- hearing gives 0, and leaves the record b and the mark m
+    abbrev pub Hears : List ℕ → ℕ → Type 0
+    Hears b m =
+        (0 ≡ hear_no p a s kept proposer acceptor number set)
+        × (b ≡ hear_record p a s kept proposer acceptor number set)
+        × (m ≡ hear_learns p a s kept proposer acceptor number set old)
 
-  -- where nothing is refused both are new
-  hear-done : {b : List ℕ} {m : ℕ} → hear_no p a s kept proposer acceptor number set ≡ 0
-      → b ≡ learner_bytes p (listening a (learner_at p kept) (Announcement proposer acceptor number (set_at set 0) 0))
-      → m ≡ (if learns a (learner_at p kept) (Announcement proposer acceptor number (set_at set 0) 0) then 1 else 0)
-      → Hears 0 b m
-  unfolding hear_record hear_learns
-  hear-done e q r = (sym e, rw e q, rw e r)
-
-  pub not-learner : is_learner p a s kept ≡ false → Hears 1 kept old
-  unfolding hear_no
-  not-learner e = hear-refused 1 refl (rw e)
-
-  module _ (e : is_learner p a s kept ≡ true) where
-    pub not-proposer : ltb proposer p ≡ false → Hears 3 kept old
-    unfolding hear_no
-    not-proposer f = hear-refused 3 refl (rw (e, f))
-
-    module _ (f : ltb proposer p ≡ true) where
-      pub not_answer : is_answer a acceptor number ≡ false → Hears 3 kept old
-      unfolding hear_no
-      not_answer g = hear-refused 3 refl (rw (e, f, g))
-
-      module _ (g : is_answer a acceptor number ≡ true) where
-        pub not_set : is_set s set ≡ false → Hears 3 kept old
-        unfolding hear_no
-        not_set h = hear-refused 3 refl (rw (e, f, g, h))
-
-        module _ (h : is_set s set ≡ true) where
-          pub not-alive : {t : Bool} → t ≡ flag_at kept 0 → t ≡ false → Hears 5 kept old
-          unfolding hear_no learner_at
-          not-alive l i = hear-refused 5 refl (rw (e, f, g, h, sym l ∙ i))
-
-          -- the place of the proposer is put, and where the learner learns, what it learnt
-          pub hears : AreBytes kept → {alive t : Bool} {held new : Heard} {told learnt : Scans} {b : List ℕ} → alive ≡ flag_at kept 0 → alive ≡ true → told ≡ set_at set 0
-              → held ≡ heard_at kept (heard_place proposer)
-              → new ≡ hearing held (Announcement proposer acceptor number told 0)
-              → learnt ≡ set_at kept 1
-              → t ≡ teaches a learnt held (Announcement proposer acceptor number told 0)
-              → ((t ≡ false) × (b ≡ sets kept (heard_place proposer) (heard_bytes new))) ⊎ ((t ≡ true) × (b ≡ sets (sets kept (heard_place proposer) (heard_bytes new)) 0 (flagged true new.set)))
-              → Hears 0 b (bool_byte t)
-          unfolding hear_no learner_at
-          hears bs {t = t} l i v o n w m q =
-              let m₀ = Announcement proposer acceptor number (set_at set 0) 0 in
-              let below = ltb-true proposer p f in
-              let alive = sym l ∙ i in
-              let n₀ = n ∙ λ j. hearing (o j) (Announcement proposer acceptor number (v j) 0) in
-              let t₀ = m ∙ (λ j. teaches a (w j) (o j) (Announcement proposer acceptor number (v j) 0)) ∙ learns-so p a s kept bs e m₀ below in
-              hear-done (rw (e, f, g, h, alive))
-              (⊎_elim (λ k. k.1 ∙ left-unlearnt p a s kept bs e m₀ below n₀ (sym t₀ ∙ k.0)) (λ k. k.1 ∙ left-learnt p a s kept bs e m₀ below n₀ (sym t₀ ∙ k.0) alive) q)
-              (flag-byte t ∙ ap (λ (x : Bool). if x then 1 else 0) t₀)
+    -- the place of the proposer is put, and where the learner learns, what it learnt
+    pub hears : AreBytes kept → {t : Bool} {held new : Heard} {told learnt : Scans} {b : List ℕ} → Passed told
+        → held ≡ heard_at kept (heard_place proposer)
+        → new ≡ hearing held (Announcement proposer acceptor number told 0)
+        → learnt ≡ set_at kept 1
+        → t ≡ teaches a learnt held (Announcement proposer acceptor number told 0)
+        → ((t ≡ false) × (b ≡ sets kept (heard_place proposer) (heard_bytes new))) ⊎ ((t ≡ true) × (b ≡ sets (sets kept (heard_place proposer) (heard_bytes new)) 0 (flagged true new.set)))
+        → Hears b (bool_byte t)
+    unfolding hear_no hear_record hear_learns learner_at
+    hears bs {t = t} (e, f, g, h, l, v) o n w m q =
+        let m₀ = Announcement proposer acceptor number (set_at set 0) 0 in
+        let below = ltb-true proposer p f in
+        let n₀ = n ∙ λ j. hearing (o j) (Announcement proposer acceptor number (v j) 0) in
+        let t₀ = m ∙ (λ j. teaches a (w j) (o j) (Announcement proposer acceptor number (v j) 0)) ∙ learns-so p a s kept bs e m₀ below in
+        let z : hear_no p a s kept proposer acceptor number set ≡ 0 = rw (e, f, g, h, l) in
+        let r = ⊎_elim (λ k. k.1 ∙ left-unlearnt p a s kept bs e m₀ below n₀ (sym t₀ ∙ k.0)) (λ k. k.1 ∙ left-learnt p a s kept bs e m₀ below n₀ (sym t₀ ∙ k.0) l) q in
+        (sym z, rw z r, rw z (flag-byte t ∙ ap (λ (x : Bool). if x then 1 else 0) t₀))

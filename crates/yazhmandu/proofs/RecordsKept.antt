@@ -11,21 +11,21 @@ use Rattle.std.specs.Prelude.{if◌then◌else◌}
 use Rattle.sets.specs.Scans.{fits}
 use Rattle.sets.specs.declared.scans.Scans.{Scans}
 use Rattle.sizes.specs.Sizes.{between, sizes_in_range}
-use Rattle.model.specs.Records.{announcement}
 use Rattle.model.specs.Rules.{accepts, accepting, gaining, answering, buffering, is_current, acknowledging, rejecting, propose_no, proposing, refine_no, refining, decide_no, deciding, may_propose, may_refine, listening}
 use Rattle.model.specs.Ranges.{acceptor_in_range, proposer_in_range, learner_in_range, fields_in_range}
 use Rattle.model.specs.Table.{Announcement}
 use Rattle.choice.specs.Tests.{◌unless◌, ◌⨾◌}
+use Rattle.model.specs.declared.Kind.TheVariants.{Announcement as announcement}
 use Rattle.model.specs.declared.Acceptor.{Acceptor}
 use Rattle.model.specs.declared.Proposer.{Proposer}
 use Rattle.choice.proofs.Tests.{if-ind, and_l, and_r, test-passed, rest-passed}
 use Rattle.model.proofs.Enabled.{below-greatest}
 use Rattle.model.proofs.RuleRanges.{accepting-range, gaining-range, buffering-range, acknowledging-range, rejecting-range, proposing-range, refining-range, deciding-range, listening-range}
-use Rattle.layouts.specs.Layout.{sizes_of, set_at, is_set, is_answer, is_acceptor, acceptor_at, acceptor_bytes, is_proposer, proposer_at, proposer_bytes, is_learner, learner_at, learner_bytes}
+use Rattle.layouts.specs.Layout.{sizes_of, set_size, set_at, is_set, is_answer, is_acceptor, acceptor_at, acceptor_bytes, is_proposer, proposer_at, proposer_bytes, is_learner, learner_at, learner_bytes}
 use Rattle.layouts.proofs.Parts.{proposer-sizes, learner-sizes, few-proposers, answer-acceptor}
 use Rattle.layouts.proofs.Places.{eight-listening}
 use Rattle.layouts.proofs.Passing.{acceptor-passes, proposer-passes, learner-passes, set-fits, proposer-range}
-use Rattle.yazhmandu.specs.Calls.{unless_refused, proposal_no, answer_record, buffer_no, buffer_record, acknowledged_no, acknowledged_record, rejected_no, rejected_record, call_no, call_record, hear_no, hear_record}
+use Rattle.yazhmandu.specs.Calls.{unless_refused, proposal_no, answer_record, answer_reply, buffer_no, buffer_record, acknowledged_no, acknowledged_record, rejected_no, rejected_record, call_no, call_record, hear_no, hear_record}
 
 -- ---- the acceptor's call
 
@@ -185,3 +185,18 @@ module _ (p a s : ℕ) (kept : List ℕ) (i j n : ℕ) (set : List ℕ) (x : is_
       if-ind (λ (b : List ℕ). is_learner p a s b ≡ true) (eqb (hear_no p a s kept i j n set) 0) (learner_bytes p l) kept
       (λ o. learner-passes p a s l many e (hear-range (eqb-true _ _ o)))
       (λ _. x)
+
+-- ---- an acknowledgement that is late is ok, and leaves the record
+
+pub acknowledged-late : (a s : ℕ) (kept : List ℕ) (acceptor number : ℕ) → is_proposer a s kept ≡ true → is_answer a acceptor number ≡ true → (proposer_at kept).alive ≡ true
+    → is_current (proposer_at kept) number ≡ false
+    → (0 ≡ acknowledged_no a s kept acceptor number) × (kept ≡ acknowledged_record a s kept acceptor number)
+unfolding acknowledged_no acknowledged_record
+acknowledged-late a s kept acceptor number e f i j = (simp (e, f, i), simp (e, f, i, j))
+
+-- ---- a set of another length is refused, after the record and before its acceptor
+
+pub no-set : (s : ℕ) (kept set old : List ℕ) → is_acceptor s kept ≡ true → eqb (length set) set_size ≡ false
+    → (3 ≡ proposal_no s kept set) × ((kept ≡ answer_record s kept set) × (old ≡ answer_reply s kept set old))
+unfolding proposal_no answer_record answer_reply is_set
+no-set s kept set old e f = (simp (e, f), (simp (e, f), simp (e, f)))

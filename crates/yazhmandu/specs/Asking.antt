@@ -1,12 +1,13 @@
 -- The shelf question as a C program has it: what a call of ymd_where_is gives, and what it shows by its four numbers.
 use Rattle.std.specs.Prelude.{◌≡◌, List, ℕ, get_or}
-use Rattle.shelf.specs.Shelf.{asked_no, shelf_numbers}
+use Rattle.choice.specs.Refusals.{no_in}
+use Rattle.shelf.specs.Shelf.{shelf_numbers}
 use Rattle.yazhmandu.specs.Calls.{where_is_bytes}
 
 -- a call on a table, a set and a tag, that gave r and left `found` where `old` stood: the promise of ymd_where_is
 abbrev pub WhereIsCall : List ℕ → List ℕ → ℕ → List ℕ → ℕ → List ℕ → Type 0
 WhereIsCall table set tag old r found =
-    (r ≡ asked_no (where_is_bytes table set tag))
+    (r ≡ no_in (where_is_bytes table set tag))
     × (found ≡ shelf_numbers (where_is_bytes table set tag) old)
 
 -- it was not refused, and a scan is shown

@@ -1,11 +1,9 @@
 -- What each call gives, and leaves in the lent bytes, by what they held at entry.
-use Rattle.std.specs.Prelude.{List, ℕ, eqb, ltb, length}
+use Rattle.std.specs.Prelude.{List, ℕ, eqb, ltb, length, Err}
 use Rattle.std.specs.Prelude.{if◌then◌else◌}
 use Rattle.forms.specs.Forms.{FormRead, read_as, unread}
 use Rattle.scan_table.specs.Table.{read_table}
-use Rattle.shelf.specs.Shelf.{where_is_written, refused_shelf}
-use Rattle.shelf.specs.declared.Shelf.{Shelf}
-use Rattle.shelf.specs.declared.Shelf.TheVariants as shelf
+use Rattle.shelf.specs.Shelf.{Shelf, where_is_written}
 use Rattle.choice.specs.Tests.{◌unless◌, ◌⨾◌, ok}
 use Rattle.model.specs.Rules.{accepts, answering, buffering, is_current, acknowledging, rejecting, learns, listening}
 use Rattle.model.specs.Table.{Announcement}
@@ -20,8 +18,8 @@ unless_refused n new old = if eqb n 0 then new else old
 
 -- a set of another length is not within S: 3, after the table's own refusals
 unfoldable pub unasked : FormRead ℕ → Shelf
-unasked (read_as n fields) = refused_shelf 3
-unasked (unread r) = shelf.Refused r
+unasked (read_as n fields) = Err 3
+unasked (unread r) = Err r
 
 unfoldable pub where_is_bytes : List ℕ → List ℕ → ℕ → Shelf
 where_is_bytes table set tag =

@@ -1,4 +1,4 @@
-// The calls of include/yazhmandu.h, under C's rules: each is the call of the same name of yazhmandu. A slice is a pointer and a length.
+// The calls of include/yazhmandu.h, under C's rules: each is the call of the same name of yazhmandu. A slice is a pointer and a length, and a refusal its number, or 0.
 #![tactic(auto)]
 
 ghost use Rattle.std.specs.Prelude.{◌≡◌};
@@ -13,6 +13,7 @@ ghost use Rattle.printer.specs.Printing.{text};
 ghost use Rattle.yazhmandu.specs.Asking.{WhereIsCall};
 ghost use Rattle.yazhmandu.specs.Calls.{proposal_no, answer_record, answer_reply, hear_no, hear_record, hear_learns, buffer_no, buffer_record, acknowledged_no, acknowledged_record, rejected_no, rejected_record, call_no, call_record};
 
+use choice::refusals::no_of;
 use yazhmandu::acceptor_call::REPLY_SIZE;
 
 #[unsafe(no_mangle)]
@@ -20,14 +21,14 @@ pub extern "C" fn ymd_clock(dock_tick: u32, scan_tick: u32, dock_time: u64, time
     ensures { (result ≡ clock_rule_no dock_tick scan_tick dock_time)
         × (time.new ≡ clock_time (clock_rule dock_tick scan_tick dock_time) time.old) }
 {
-    yazhmandu::clock_call::ymd_clock(dock_tick, scan_tick, dock_time, time)
+    no_of(yazhmandu::clock_call::ymd_clock(dock_tick, scan_tick, dock_time, time))
 }
 
 #[unsafe(no_mangle)]
 pub extern "C" fn ymd_where_is(table: &[u8], set: &[u8], tag: u64, found: &mut [u64; 4]) -> u8
     ensures { WhereIsCall table.now set.now tag found.old result found.new }
 {
-    yazhmandu::shelf_call::ymd_where_is(table, set, tag, found)
+    no_of(yazhmandu::shelf_call::ymd_where_is(table, set, tag, found))
 }
 
 #[unsafe(no_mangle)]
@@ -41,7 +42,7 @@ pub extern "C" fn ymd_answer_proposal(
         × (kept.new ≡ answer_record scans kept.old set.now)
         × (reply.new ≡ answer_reply scans kept.old set.now reply.old) }
 {
-    yazhmandu::acceptor_call::ymd_answer_proposal(scans, kept, set, reply)
+    no_of(yazhmandu::acceptor_call::ymd_answer_proposal(scans, kept, set, reply))
 }
 
 #[unsafe(no_mangle)]
@@ -60,9 +61,9 @@ pub extern "C" fn ymd_hear(
         × (kept.new ≡ hear_record proposers acceptors scans kept.old proposer acceptor number set.now)
         × (learns.new ≡ hear_learns proposers acceptors scans kept.old proposer acceptor number set.now learns.old) }
 {
-    yazhmandu::learner_call::ymd_hear(
+    no_of(yazhmandu::learner_call::ymd_hear(
         proposers, acceptors, scans, kept, proposer, acceptor, number, set, learns,
-    )
+    ))
 }
 
 #[unsafe(no_mangle)]
@@ -70,7 +71,7 @@ pub extern "C" fn ymd_buffer(acceptors: u64, scans: u64, kept: &mut [u8], set: &
     ensures { (result ≡ buffer_no acceptors scans kept.old set.now)
         × (kept.new ≡ buffer_record acceptors scans kept.old set.now) }
 {
-    yazhmandu::proposer_calls::ymd_buffer(acceptors, scans, kept, set)
+    no_of(yazhmandu::proposer_calls::ymd_buffer(acceptors, scans, kept, set))
 }
 
 #[unsafe(no_mangle)]
@@ -84,7 +85,7 @@ pub extern "C" fn ymd_acknowledged(
     ensures { (result ≡ acknowledged_no acceptors scans kept.old acceptor number)
         × (kept.new ≡ acknowledged_record acceptors scans kept.old acceptor number) }
 {
-    yazhmandu::proposer_calls::ymd_acknowledged(acceptors, scans, kept, acceptor, number)
+    no_of(yazhmandu::proposer_calls::ymd_acknowledged(acceptors, scans, kept, acceptor, number))
 }
 
 #[unsafe(no_mangle)]
@@ -99,7 +100,7 @@ pub extern "C" fn ymd_rejected(
     ensures { (result ≡ rejected_no acceptors scans kept.old acceptor number set.now)
         × (kept.new ≡ rejected_record acceptors scans kept.old acceptor number set.now) }
 {
-    yazhmandu::proposer_calls::ymd_rejected(acceptors, scans, kept, acceptor, number, set)
+    no_of(yazhmandu::proposer_calls::ymd_rejected(acceptors, scans, kept, acceptor, number, set))
 }
 
 #[unsafe(no_mangle)]
@@ -107,7 +108,7 @@ pub extern "C" fn ymd_propose(acceptors: u64, scans: u64, kept: &mut [u8]) -> u8
     ensures { (result ≡ call_no acceptors scans kept.old propose_no)
         × (kept.new ≡ call_record acceptors scans kept.old propose_no proposing) }
 {
-    yazhmandu::proposer_calls::ymd_propose(acceptors, scans, kept)
+    no_of(yazhmandu::proposer_calls::ymd_propose(acceptors, scans, kept))
 }
 
 #[unsafe(no_mangle)]
@@ -115,7 +116,7 @@ pub extern "C" fn ymd_refine(acceptors: u64, scans: u64, kept: &mut [u8]) -> u8
     ensures { (result ≡ call_no acceptors scans kept.old (refine_no acceptors))
         × (kept.new ≡ call_record acceptors scans kept.old (refine_no acceptors) refining) }
 {
-    yazhmandu::proposer_calls::ymd_refine(acceptors, scans, kept)
+    no_of(yazhmandu::proposer_calls::ymd_refine(acceptors, scans, kept))
 }
 
 #[unsafe(no_mangle)]
@@ -123,21 +124,21 @@ pub extern "C" fn ymd_decide(acceptors: u64, scans: u64, kept: &mut [u8]) -> u8
     ensures { (result ≡ call_no acceptors scans kept.old (decide_no acceptors))
         × (kept.new ≡ call_record acceptors scans kept.old (decide_no acceptors) deciding) }
 {
-    yazhmandu::proposer_calls::ymd_decide(acceptors, scans, kept)
+    no_of(yazhmandu::proposer_calls::ymd_decide(acceptors, scans, kept))
 }
 
 #[unsafe(no_mangle)]
 pub extern "C" fn ymd_check_schedule(bytes: &[u8]) -> u8
     ensures { result ≡ form_no (read_schedule bytes.now) }
 {
-    yazhmandu::form_calls::ymd_check_schedule(bytes)
+    no_of(yazhmandu::form_calls::ymd_check_schedule(bytes))
 }
 
 #[unsafe(no_mangle)]
 pub extern "C" fn ymd_check_table(bytes: &[u8]) -> u8
     ensures { result ≡ form_no (read_table bytes.now) }
 {
-    yazhmandu::form_calls::ymd_check_table(bytes)
+    no_of(yazhmandu::form_calls::ymd_check_table(bytes))
 }
 
 #[unsafe(no_mangle)]
@@ -146,5 +147,5 @@ pub extern "C" fn ymd_run_text(output: &mut [u8], bytes: &[u8], length: &mut usi
         × (output.new ≡ after_text (text bytes.now) output.old)
         × (length.new ≡ written_next (text_written (text bytes.now) output.old) length.old) }
 {
-    yazhmandu::text_call::ymd_run_text(output, bytes, length)
+    no_of(yazhmandu::text_call::ymd_run_text(output, bytes, length))
 }

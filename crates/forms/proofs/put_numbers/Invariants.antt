@@ -1,13 +1,6 @@
--- `forms::put_numbers` meets its contract. The loop's invariant: the numbers that are left, put from `next` on, make the whole. The measure is how
--- many are left. Assumes nothing.
-use Prim.Native.Nat.{◌-◌}
-use lib.ListN.{length}
+-- The loop's invariant: the numbers that are left, put from `next` on, make the whole.
 use Rattle.forms.proofs.Putting.{Left}
 use Rattle.forms.proofs.put_numbers.Given as goal
 
--- many are left. Assumes nothing.
-abbrev pub invariant-loop-done : goal.invariant-loop-done
-invariant-loop-done l = Left l.values l.initial.buffer l.at l.buffer l.next l.done
-
-abbrev pub decreases-loop-done : goal.decreases-loop-done
-decreases-loop-done l = length l.values - l.done
+abbrev pub invariant-loop-number : goal.invariant-loop-number
+invariant-loop-number l = Left l.fn.values l.initial.buffer l.fn.at l.buffer l.next l.number-index

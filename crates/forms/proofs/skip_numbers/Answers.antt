@@ -1,24 +1,23 @@
-use mathlib.Core.Path.{sym, ◌∙◌}
+use Rattle.std.proofs.Common.{rules, ◌≡◌, sym, ◌∙◌, Err}
 use native.Mathlib.Omega.{arith}
-use native.Mathlib.Nat.{sub-zero}
-use borrow.Author.Rules.{rules}
 use Rattle.forms.proofs.Steps.{plain-number, plain-refused, plain-none}
 use Rattle.forms.proofs.skip_numbers.Goals as goal
 
-pub loop-passed-init : goal.loop-passed-init
-loop-passed-init c = (search rules, rw (sub-zero c.args.count))
+pub returns-in_err-next : goal.returns-in_err-next
+returns-in_err-next c =
+    let a = c.args in
+    let l = c.loop in
+    let e : c.from_residual.result ≡ Err c.in_err-next.field-0.0 = search rules in
+    rw e (sym (l.invariant ∙ plain-refused a.limit a.bytes.now a.count l.counter l.next (omega arith) (sym c.in_err-next.ensures)))
 
-pub returns-in-Refused : goal.returns-in-Refused
-returns-in-Refused c = let a = c.args in
-    let l = c.loop-passed in
-    sym (l.invariant.1 ∙ plain-refused a.limit a.bytes.now a.count l.passed l.next (omega arith) (sym c.read_number-answer.ensures ∙ c.in-Refused.is))
-
-pub loop-passed-preserved : goal.loop-passed-preserved
-loop-passed-preserved c = let a = c.args in
-    let l = c.loop-passed in
-    (omega arith, l.invariant.1 ∙ plain-number a.limit a.bytes.now a.count l.passed l.next (omega arith) (sym c.read_number-answer.ensures ∙ c.in-Number.is))
+pub loop-preserved : goal.loop-preserved
+loop-preserved c =
+    let a = c.args in
+    let l = c.loop in
+    l.invariant ∙ plain-number a.limit a.bytes.now a.count l.counter l.next (omega arith) (sym c.in_ok-next.ensures)
 
 pub returns : goal.returns
-returns c = let a = c.args in
-    let l = c.loop-passed in
-    sym (l.invariant.1 ∙ plain-none a.limit a.bytes.now a.count l.passed l.next (omega arith))
+returns c =
+    let a = c.args in
+    let l = c.loop in
+    sym (l.invariant ∙ plain-none a.limit a.bytes.now a.count l.counter l.next (omega arith))

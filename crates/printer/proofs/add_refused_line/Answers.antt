@@ -1,22 +1,13 @@
 -- `printer::add_refused_line` meets its contract. Assumes nothing.
-use native.Mathlib.Omega.{arith}
-use lib.ListN.{length-append}
 use Rattle.text.specs.Words.{bytes}
 use Rattle.text.specs.Digits.{decimal}
-use Rattle.printer.proofs.Adding.{after_both}
+use Rattle.printer.proofs.Adding.{and_both}
 use Rattle.printer.proofs.add_refused_line.Goals as goal
-
-pub add_number-next-requires : goal.add_number-next-requires
-unfolding bytes
-add_number-next-requires c = let h = simp length-append at c.requires in
-    simp length-append (omega arith)
-
-pub add_number-requires : goal.add_number-requires
-unfolding bytes
-add_number-requires c = let h = simp length-append at c.requires in
-    let p = simp length-append at c.add_number-next.ensures.place in
-    simp length-append (omega arith)
 
 pub returns : goal.returns
 unfolding bytes
-returns c = after_both (decimal c.args.no) (bytes "\n") c.add_number-next.ensures c.add_number.ensures
+returns g c =
+    let a = c.args in
+    let adds = g.S.Sink.adds in
+    let joined = g.met.S.Sink.joined in
+    and_both adds joined _ (decimal a.no) (bytes "\n") _ _ _ c.add_number.ensures c.add_number-2.ensures

@@ -3,8 +3,10 @@ use mathlib.Core.Path.{◌≡◌, sym, ap, ◌∙◌, subst}
 use mathlib.Core.List.{List}
 use Prim.Native.Nat.{ℕ, ◌*◌, ◌≤◌}
 use lib.ListN.{length, replicate, length-replicate}
+use Rattle.choice.specs.Refusals.{number, numbered}
 use Rattle.printer.specs.Text.{text_written, after_text}
-use Rattle.printer.proofs.Adding.{numbered}
+use Rattle.printer.proofs.Lengths.{refusal-short}
+use Rattle.printer.proofs.Adding.{with-number}
 use Rattle.printer.specs.Printing.{text_of_run, text}
 use Rattle.printer.proofs.Printing.{ran, refused-printed}
 use Rattle.printer.proofs.print.Goals as goal
@@ -17,22 +19,26 @@ size : length room ≡ 12_288
 size = length-replicate {A = ℕ} 12_288 0
 
 pub print_run-requires : goal.print_run-requires
-print_run-requires c = let read = c.read_schedule-read in
-    let bytes = c.args.bytes.now in
-    let r = ran bytes room size c.in-Events.header (sym read.ensures.0 ∙ c.in-Events.is) in
-    (r.sizes, (r.few, subst (λ (l : List ℕ). 3 * c.in-Events.header.events ≤ length l) (sym read.ensures.1) r.numbers))
+print_run-requires c = let read = c.read_schedule in
+    let h = c.in-Ok.header in
+    let r = ran c.args.bytes.now room size h (sym read.ensures.0 ∙ ap numbered c.in-Ok.is) in
+    (r.sizes, (r.few, subst (λ (l : List ℕ). 3 * h.events ≤ length l) (sym read.ensures.1) r.numbers))
 
-pub returns-in-Events : goal.returns-in-Events
-returns-in-Events c = let read = c.read_schedule-read in
+pub returns-in-Ok : goal.returns-in-Ok
+returns-in-Ok c = let read = c.read_schedule in
     let a = c.args in
-    let r = ran a.bytes.now room size c.in-Events.header (sym read.ensures.0 ∙ c.in-Events.is) in
-    let same = ap (λ (l : List ℕ). text_of_run c.in-Events.header.sizes l c.in-Events.header.events) read.ensures.1 ∙ r.same in
+    let h = c.in-Ok.header in
+    let r = ran a.bytes.now room size h (sym read.ensures.0 ∙ ap numbered c.in-Ok.is) in
+    let same = ap (λ (l : List ℕ). text_of_run h.sizes l h.events) read.ensures.1 ∙ r.same in
     let done = c.print_run.ensures in
-    numbered (text a.bytes.now) a.buffer.now (done.0 ∙ ap (λ (t : List ℕ). text_written t a.buffer.now) same) (done.1 ∙ ap (λ (t : List ℕ). after_text t a.buffer.now) same)
+    with-number (text a.bytes.now) a.buffer.now c.print_run.result (done.0 ∙ ap (λ (t : List ℕ). text_written t a.buffer.now) same) (done.1 ∙ ap (λ (t : List ℕ). after_text t a.buffer.now) same)
 
-pub returns-in-Refused : goal.returns-in-Refused
-returns-in-Refused c = let read = c.read_schedule-read in
+pub print_text-requires-clause-short : goal.print_text-requires-clause-short
+print_text-requires-clause-short c = refusal-short (number c.in-Err.refusal)
+
+pub returns-in-Err : goal.returns-in-Err
+returns-in-Err c = let read = c.read_schedule in
     let a = c.args in
-    let same = refused-printed a.bytes.now room size c.in-Refused.refusal (sym read.ensures.0 ∙ c.in-Refused.is) in
-    let done = c.print_refusal.ensures in
-    numbered (text a.bytes.now) a.buffer.now (done.0 ∙ ap (λ (t : List ℕ). text_written t a.buffer.now) same) (done.1 ∙ ap (λ (t : List ℕ). after_text t a.buffer.now) same)
+    let same = refused-printed a.bytes.now room size (number c.in-Err.refusal) (sym read.ensures.0 ∙ ap numbered c.in-Err.is) in
+    let done = c.print_text.ensures in
+    with-number (text a.bytes.now) a.buffer.now c.print_text.result (done.0 ∙ ap (λ (t : List ℕ). text_written t a.buffer.now) same) (done.1 ∙ ap (λ (t : List ℕ). after_text t a.buffer.now) same)

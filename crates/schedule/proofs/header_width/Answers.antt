@@ -1,42 +1,30 @@
--- `schedule::header_width` meets its contract: six forms of at most ten bytes each. Assumes nothing.
-use native.Mathlib.Omega.{arith}
-use Prim.Native.Nat.{◌+◌, ◌≤◌}
-use lib.ListN.{length-append}
-use Rattle.schedule.proofs.Sixes.{form-most}
+use Rattle.std.proofs.Common.{◌≡◌, ap, ◌+◌, length, drop, arith}
+use lib.ListN.{get_or}
+use Rattle.numbers.specs.Coding.{form}
 use Rattle.forms.specs.Forms.{forms}
+use Rattle.forms.proofs.Steps.{forms-next-length, forms-none}
 use Rattle.schedule.specs.Schedule.{numbers_of}
+use Rattle.schedule.proofs.Sixes.{six-count, six-most}
 use Rattle.schedule.proofs.header_width.Goals as goal
-use Rattle.schedule.proofs.header_width.Goals.{After-width-e}
+use Rattle.schedule.proofs.header_width.Goals.{After-width-width}
 
--- six widths of at most ten
-few : (c : After-width-e) → c.width-p.result + c.width-a.result + c.width-l.result + c.width-m.result + c.width-s.result + c.width-e.result ≤ 60
-few c =
-    let h = c.args.header in
-    omega (
-      arith,
-      form-most h.sizes.proposers,
-      form-most h.sizes.acceptors,
-      form-most h.sizes.learners,
-      form-most h.sizes.slots,
-      form-most h.sizes.scans,
-      form-most h.events,
-    )
+-- the next number's form and those that are left
+next : (c : After-width-width)
+    → let six = numbers_of c.args.header in
+    length (forms (drop c.loop-number.number-index six)) ≡ c.width-width.result + length (forms (drop (c.loop-number.number-index + 1) six))
+next c =
+    let six = numbers_of c.args.header in
+    let i = c.loop-number.number-index in
+    let w : c.width-width.result ≡ length (form (get_or six i 0)) = rw (← c.from-number-items.ensures) c.width-width.ensures in
+    omega (arith, w, forms-next-length six i (omega (arith, six-count c.args.header)))
 
-pub overflow_add-result : goal.overflow_add-result
-overflow_add-result c = omega (arith, few (goal.at.overflow_add-result c).After-width-e)
+pub overflow_add-width : goal.overflow_add-width
+overflow_add-width c = omega (arith, next (goal.at.overflow_add-width c).After-width-width, six-most c.args.header)
 
-pub overflow_add-result-2 : goal.overflow_add-result-2
-overflow_add-result-2 c = omega (arith, few (goal.at.overflow_add-result-2 c).After-width-e)
-
-pub overflow_add-result-3 : goal.overflow_add-result-3
-overflow_add-result-3 c = omega (arith, few (goal.at.overflow_add-result-3 c).After-width-e)
-
-pub overflow_add-result-4 : goal.overflow_add-result-4
-overflow_add-result-4 c = omega (arith, few (goal.at.overflow_add-result-4 c).After-width-e)
-
-pub overflow_add-result-5 : goal.overflow_add-result-5
-overflow_add-result-5 c = omega (arith, few (goal.at.overflow_add-result-5 c).After-width-e)
+pub loop-number-preserved : goal.loop-number-preserved
+loop-number-preserved c = omega (arith, next (goal.at.loop-number-preserved c).After-width-width)
 
 pub returns : goal.returns
-unfolding forms numbers_of
-returns c = simp length-append (omega arith)
+returns c =
+    let six = numbers_of c.args.header in
+    omega (arith, ap length (forms-none six c.loop-number.number-index (omega (arith, six-count c.args.header))))

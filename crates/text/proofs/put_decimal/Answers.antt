@@ -1,29 +1,18 @@
-use mathlib.Core.Path.{refl, ◌∙◌}
-use native.Mathlib.Omega.{arith}
-use lib.ListN.{length-set}
-use borrow.Author.Rules.{rules}
-use Rattle.text.proofs.Finding.{begin-fill, fill_more, fill-last, several}
+-- `text::put_decimal` meets its contract. Assumes nothing.
+use Rattle.std.proofs.Common.{arith, sym, ap, ◌∙◌, length-take-le}
+use Rattle.std.proofs.lemmas.List.Edits.{sets}
+use Rattle.text.specs.Digits.{digits_of}
+use Rattle.text.proofs.DigitLaws.{decimal-most, decimal-digits}
 use Rattle.text.proofs.put_decimal.Goals as goal
 
-pub loop-rest-init : goal.loop-rest-init
-loop-rest-init c = begin-fill c.args.value _ refl (search rules)
+pub slice_bounds-room-end : goal.slice_bounds-room-end
+slice_bounds-room-end c = omega (arith, c.decimal_width.ensures, decimal-most 20 c.args.value)
 
-pub bounds-digits-first : goal.bounds-digits-first
-bounds-digits-first c = c.loop-rest.invariant.inside
-
-pub overflow_sub-first : goal.overflow_sub-first
-overflow_sub-first c = several c.loop-rest.invariant.part (omega arith)
-
-pub loop-rest-preserved : goal.loop-rest-preserved
-loop-rest-preserved c = rw c.digit_byte.ensures (fill_more c.loop-rest.invariant (omega arith))
-
-pub bounds-digits-first-2 : goal.bounds-digits-first-2
-bounds-digits-first-2 c = c.loop-rest.invariant.inside
-
-pub slice_bounds-put_word-end : goal.slice_bounds-put_word-end
-slice_bounds-put_word-end c = let l = c.loop-rest in
-    omega (arith, length-set l.digits l.first c.digit_byte-2.result, l.invariant.size)
+pub slice_bounds-digits-end : goal.slice_bounds-digits-end
+slice_bounds-digits-end c = sym (length-take-le c.decimal_width.result _ (omega (arith, c.decimal_width.ensures, decimal-most 20 c.args.value)))
 
 pub returns : goal.returns
-returns c = let l = c.loop-rest in
-    c.put_word.ensures ∙ rw (c.digit_byte-2.ensures, fill-last l.invariant (omega arith))
+returns c =
+    let a = c.args in
+    let size = length-take-le c.decimal_width.result _ (omega (arith, c.decimal_width.ensures, decimal-most 20 a.value)) in
+    c.put_word.ensures ∙ ap (sets a.buffer.now a.at) (c.find_digits.ensures ∙ ap (λ n. digits_of 10 n a.value) (size ∙ c.decimal_width.ensures) ∙ sym (decimal-digits 20 a.value))

@@ -1,12 +1,13 @@
-use mathlib.Core.Path.{sym, ◌∙◌}
-use Rattle.decisions.proofs.Deciding.{takes-own}
+use Rattle.decisions.specs.declared.arms.Arm.TheVariants as arm
+use Rattle.decisions.proofs.Deciding.{checked, answers-delivery, answers-crash}
 use Rattle.decisions.proofs.arms.decide_acceptor.Goals as goal
 
-pub by_acceptor-requires : goal.by_acceptor-requires
-by_acceptor-requires c = takes-own 2 c.args.z c.args.e c.args.m (sym c.takes.ensures ∙ c.if-takes.true)
+pub returns-in-Deliver : goal.returns-in-Deliver
+returns-in-Deliver c = let a = c.args in
+    let k = checked arm.Acceptor a.z a.e a.m c.in_ok-sound.sound c.in_ok-sound.ensures in
+    simp (c.delivered.ensures, c.deliver_proposal.ensures, k.1) (answers-delivery a.z a.e a.m a.c k.0 c.from.result c.from.ensures c.in-Deliver.is)
 
-pub returns-then-takes : goal.returns-then-takes
-returns-then-takes c = simp (sym c.takes.ensures ∙ c.if-takes.true) c.by_acceptor.ensures
-
-pub returns : goal.returns
-returns c = simp (sym c.takes.ensures ∙ c.if-takes.false, c.not_taken.ensures, c.fresh.ensures)
+pub returns-in_default : goal.returns-in_default
+returns-in_default c = let a = c.args in
+    let k = checked arm.Acceptor a.z a.e a.m c.in_ok-sound.sound c.in_ok-sound.ensures in
+    simp (c.crashed.ensures, c.crash.ensures) (answers-crash a.z a.e a.m a.c k.0 c.from.result c.from.ensures c.in_default.not-Deliver)

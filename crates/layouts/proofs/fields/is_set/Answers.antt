@@ -12,11 +12,8 @@ pub returns-then-bytes : goal.returns-then-bytes
 unfolding is_set
 returns-then-bytes c = simp (ne_eqb _ _ c.if-bytes.true)
 
-pub overflow_cast-scans : goal.overflow_cast-scans
-overflow_cast-scans c = omega (arith, c.at_most-scans.ensures)
-
 pub returns : goal.returns
 unfolding is_set most_scans
 returns c = let bytes = c.args.bytes.now in
-    let small : word_at 8 bytes 0 < 2 ^ 64 = word_small bytes (λ k. omega (arith, c.shared_slice_known-1.given k)) 8 0 in
-    simp (eq-eqb _ _ c.if-bytes.false) (simp (c.fits.ensures, c.set_at.ensures, c.at_most-scans.ensures) (fits-min (set_at bytes 0) c.args.scans most_scans (fits-first (word_at 8 bytes 0) most_scans small (omega arith))))
+    let small : word_at 8 bytes 0 < 2 ^ 64 = word_small bytes (λ k. omega (arith, c.type_inv.bytes k)) 8 0 in
+    simp (eq-eqb _ _ c.if-bytes.false) (simp (c.fits.ensures, c.set_at.ensures, c.from.ensures, c.at_most-scans.ensures) (fits-min (set_at bytes 0) c.args.scans most_scans (fits-first (word_at 8 bytes 0) most_scans small (omega arith))))

@@ -45,8 +45,8 @@ returns-then-not-fits c = let a = c.args in
     let g = failed (c.fits.ensures ∙ λ i. fits (v i) (w i).scans) c.if-not-fits.true in
     sym (learner-left a.proposers a.acceptors a.scans a.kept.now e c.if-kept-proposers.false (passed c.is_flag.ensures c.if-not-is_flag.false) g)
 
-pub places_in_range-requires : goal.places_in_range-requires
-places_in_range-requires c = let a = c.args in
+pub overflow_cast-count : goal.overflow_cast-count
+overflow_cast-count c = let a = c.args in
     let z = c.sizes_of-z.ensures in
     let e = passed (sizes-tested a.proposers a.acceptors a.scans z c.in_range.ensures) c.if-not-in_range.false in
     omega (arith, ap (λ (x : Sizes). x.proposers) (z ∙ narrowed-same a.proposers a.acceptors a.scans e), few-proposers a.proposers a.acceptors a.scans e)

@@ -1,42 +1,28 @@
-use Rattle.std.proofs.Common.{◌≡◌, ◌∙◌, ap, ℕ, length, ◌&&◌}
-use Rattle.choice.specs.Tests.{refusal, ◌⨾◌}
-use Rattle.sizes.specs.Sizes.{sizes_in_range}
-use Rattle.model.specs.Ranges.{all, proposer_in_range, acceptor_in_range, learner_in_range, message_in_range}
-use Rattle.machine.specs.Counting.{lengths_are, sound_of, turns_of, events_no}
-use Rattle.machine.specs.Running.{Ran, driven}
-use Rattle.machine.proofs.CallTests.{sound-first, run_tests, run-refused, run-left}
+use Rattle.std.proofs.Common.{◌≡◌, sym, ◌∙◌, ap, length, Bool}
+use Rattle.choice.specs.Tests.{◌unless◌, ◌⨾◌, ok}
+use Rattle.choice.proofs.Tests.{test-passed}
+use Rattle.machine.specs.Calls.{lent, run_no}
+use Rattle.machine.specs.Counting.{events_no}
+use Rattle.machine.proofs.RunLaws.{run-drives, run_ends}
 use Rattle.machine.proofs.calls.machine_run.Goals as goal
+use Rattle.machine.proofs.calls.machine_run.Goals.{In_ok-check_events}
+
+-- nothing is refused
+passed : (c : In_ok-check_events) → let a = c.args in run_no a.z (lent a.ps.now a.acs.now a.ls.now a.t.now) a.events.now a.n a.log.now ≡ 0
+passed c =
+    let a = c.args in
+    ap (λ (b : Bool). 1 unless b ⨾ events_no (length a.events.now) (length a.log.now) a.n) (sym c.is_sound.ensures ∙ test-passed 0 c.is_sound.result ok (sym c.in_ok-refuse_unless.ensures))
+    ∙ sym c.in_ok-check_events.ensures
+
+pub drive-requires : goal.drive-requires
+drive-requires c =
+    let a = c.args in
+    run-drives a.z a.ps.now a.acs.now a.ls.now a.t.now a.events.now a.n a.log.now (passed (goal.at.drive-requires c).In_ok-check_events)
 
 pub returns : goal.returns
 returns c =
     let a = c.args in
-    let ps = a.ps.now in
-    let acs = a.acs.now in
-    let ls = a.ls.now in
-    let t = a.t.now in
-    let ns = a.events.now in
-    let log = a.log.now in
-    let z = a.z in
-    let sized = sizes_in_range z && lengths_are z (length ps) (length acs) (length ls) (length t) in
-    let sound = c.sound_no-sound.ensures ∙ (λ i. sound_of sized (c.proposers_in_range-p.ensures i) (c.acceptors_in_range-a.ensures i) (c.learners_in_range-l.ensures i) (c.messages_in_range-m.ensures i)) in
-    let tests : c.first_no-refusal.result ≡ run_tests z ps acs ls t ns log a.n =
-    c.first_no-refusal.ensures ∙ (λ i. refusal (sound i) ⨾ c.events_no-counted.ensures i)
-    ∙ sound-first (sized && all (proposer_in_range z) ps && all (acceptor_in_range z) acs && all (learner_in_range z) ls && all (message_in_range z) t) (events_no (length ns) (length log) a.n) in
-    let same = ap (driven z ps acs ls t ns log) (c.count_if-k.ensures ∙ ap (λ (r : ℕ). turns_of r a.n) tests) in
-    let left = run-left z ps acs ls t ns log a.n in
-    let g = c.drive.ensures in (
-      tests ∙ run-refused z ps acs ls t ns log a.n,
-      (
-        (
-          g.0 ∙ ap (λ (x : Ran). x.proposers) same ∙ left.proposers,
-          (
-            g.1.0 ∙ ap (λ (x : Ran). x.acceptors) same ∙ left.acceptors,
-            (
-              g.1.1.0 ∙ ap (λ (x : Ran). x.learners) same ∙ left.learners,
-              g.1.1.1.0 ∙ ap (λ (x : Ran). x.slots) same ∙ left.slots,
-            ),
-          ),
-        ),
-        g.1.1.1.1 ∙ ap (λ (x : Ran). x.log) same ∙ left.log,
-      ),
-    )
+    let r = passed (goal.at.returns c).In_ok-check_events in
+    let x = run_ends a.z a.ps.now a.acs.now a.ls.now a.t.now a.events.now a.n a.log.now r in
+    let g = c.drive.ensures in
+    (sym r, ((g.0 ∙ x.proposers, (g.1.0 ∙ x.acceptors, (g.1.1.0 ∙ x.learners, g.1.1.1.0 ∙ x.slots))), g.1.1.1.1 ∙ x.log))

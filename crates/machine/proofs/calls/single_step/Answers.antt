@@ -1,41 +1,48 @@
-use Rattle.std.proofs.Common.{◌≡◌, ◌∙◌, ap, ℕ, length, ◌&&◌}
-use Rattle.sizes.specs.Sizes.{sizes_in_range}
-use Rattle.model.specs.Step.{answer_no}
+use Rattle.std.proofs.Common.{◌≡◌, sym, ◌∙◌, ap, Err, rules}
+use Rattle.choice.specs.Tests.{ok}
+use Rattle.choice.specs.Refusals.{numbered}
+use Rattle.choice.proofs.Tests.{test-passed}
+use Rattle.choice.proofs.RefusalLaws.{refused-unless}
+use Rattle.model.specs.Step.{Stepped, answer_no}
 use Rattle.machine.specs.Calls.{lent}
-use Rattle.machine.specs.Counting.{lengths_are, sound_of, turns_of}
-use Rattle.machine.specs.Running.{times_of}
-use Rattle.machine.specs.Stepping.{Left}
 use Rattle.machine.proofs.AnswerNumbers.{step-number}
-use Rattle.machine.proofs.CallTests.{step_tests, step_left}
+use Rattle.machine.proofs.StepLaws.{step-agrees, step-refused}
+use Rattle.machine.proofs.RunLaws.{in-range-fits}
 use Rattle.machine.proofs.calls.single_step.Goals as goal
+
+pub returns-in_err-refuse_unless : goal.returns-in_err-refuse_unless
+returns-in_err-refuse_unless c =
+    let a = c.args in
+    let s = lent a.ps.now a.acs.now a.ls.now a.t.now in
+    let e : c.from_residual.result ≡ Err c.in_err-refuse_unless.field-0.0 = search rules in
+    let n = refused-unless 1 c.is_sound-sound.result c.in_err-refuse_unless.field-0.0 c.in_err-refuse_unless.ensures in
+    let r = sym (step-refused a.z s a.e (sym c.is_sound-sound.ensures ∙ n.0)) in
+    let said = ap numbered e ∙ ap Err n.1 ∙ ap (λ (x : Stepped). x.answer) r in (
+      said,
+      (
+        ap answer_no said ∙ step-number a.z s a.e,
+        (
+          ap (λ (x : Stepped). x.state.proposers) r,
+          (ap (λ (x : Stepped). x.state.acceptors) r, (ap (λ (x : Stepped). x.state.learners) r, ap (λ (x : Stepped). x.state.slots) r)),
+        ),
+      ),
+    )
+
+pub step-requires : goal.step-requires
+step-requires c =
+    let a = c.args in
+    in-range-fits a.z a.ps.now a.acs.now a.ls.now a.t.now (sym c.is_sound-sound.ensures ∙ test-passed 0 c.is_sound-sound.result ok (sym c.in_ok-refuse_unless.ensures))
 
 pub returns : goal.returns
 returns c =
     let a = c.args in
-    let ps = a.ps.now in
-    let acs = a.acs.now in
-    let ls = a.ls.now in
-    let t = a.t.now in
-    let sized = sizes_in_range a.z && lengths_are a.z (length ps) (length acs) (length ls) (length t) in
-    let tests : c.sound_no-refusal.result ≡ step_tests a.z ps acs ls t =
-    c.sound_no-refusal.ensures ∙ (λ i. sound_of sized (c.proposers_in_range-p.ensures i) (c.acceptors_in_range-a.ensures i) (c.learners_in_range-l.ensures i) (c.messages_in_range-m.ensures i)) in
-    let turns = c.once_if-n.ensures ∙ ap (λ (r : ℕ). turns_of r 1) tests in
-    let same = ap (times_of a.z a.e ps acs ls t) turns in
-    let left = step_left a.z ps acs ls t a.e in
-    let g = c.repeat.ensures in
-    let said = g.0 ∙ ap (λ (x : Left). x.answer) same ∙ left.answer in (
+    let s = lent a.ps.now a.acs.now a.ls.now a.t.now in
+    let same = step-agrees a.z s a.e (sym c.is_sound-sound.ensures ∙ test-passed 0 c.is_sound-sound.result ok (sym c.in_ok-refuse_unless.ensures)) in
+    let g = c.step.ensures in
+    let said = g.0 ∙ same.answer in (
       said,
       (
-        ap answer_no said ∙ step-number a.z (lent ps acs ls t) a.e,
-        (
-          g.1.0 ∙ ap (λ (x : Left). x.proposers) same ∙ left.proposers,
-          (
-            g.1.1.0 ∙ ap (λ (x : Left). x.acceptors) same ∙ left.acceptors,
-            (
-              g.1.1.1.0 ∙ ap (λ (x : Left). x.learners) same ∙ left.learners,
-              g.1.1.1.1 ∙ ap (λ (x : Left). x.slots) same ∙ left.slots,
-            ),
-          ),
-        ),
+        ap answer_no said ∙ step-number a.z s a.e,
+        (g.1.0 ∙ same.proposers, (g.1.1.0 ∙ same.acceptors, (g.1.1.1.0 ∙ same.learners, g.1.1.1.1 ∙ same.slots))),
       ),
     )

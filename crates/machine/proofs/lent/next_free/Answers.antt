@@ -1,34 +1,28 @@
-use Rattle.std.proofs.Common.{◌≡◌, sym, ◌∙◌, subst, ◌+◌, get_or, not, Bool}
+use Rattle.std.proofs.Common.{sym, ◌∙◌, ap, ◌<◌, length}
 use Rattle.std.proofs.lemmas.List.{get_or_default}
-use lib.Dec.{T as Holds}
 use Rattle.model.specs.Records.{free_slot}
-use Rattle.model.specs.declared.Message.{Message}
-use Rattle.decisions.specs.Sending.{is_taken}
-use Rattle.machine.specs.Slots.{lowest_from}
+use Rattle.model.specs.Table.{is_free}
 use Rattle.machine.proofs.Searching.{next-on, next-off, next-inside}
 use Rattle.machine.proofs.lent.next_free.Goals as goal
-use Rattle.machine.proofs.lent.next_free.Goals.{In-loop-at}
+use Rattle.machine.proofs.lent.next_free.Goals.{At-loop-at}
 
--- the slot passed was taken, so the lowest free one is past it
-on : (c : In-loop-at) → lowest_from (c.loop-at.at + 1) c.args.t.now ≡ lowest_from c.args.from c.args.t.now
-on c =
-    let l = c.loop-at in
-    let t = c.args.t.now in
-    let taken : Holds (is_taken (get_or t l.at free_slot)) = subst (λ (m : Message). Holds (is_taken m)) l.invariant.1 (subst Holds (sym c.loop-at-test.true ∙ c.is_taken.ensures) tt) in
-    next-on t l.at (next-inside t l.at c.args.from l.invariant.0 c.requires) taken ∙ l.invariant.0
+-- a free slot lies from `at` on, so `at` is a place of the table
+inside : (c : At-loop-at) → c.loop-at.at < length c.args.t.now
+inside c = next-inside c.args.t.now c.loop-at.at c.args.from c.loop-at.invariant c.requires
 
-pub bounds-t-at-in-loop-at : goal.bounds-t-at-in-loop-at
-bounds-t-at-in-loop-at c = next-inside c.args.t.now (c.loop-at.at + 1) c.args.from (on (goal.at.bounds-t-at-in-loop-at c).In-loop-at) c.requires
+pub bounds-t-at : goal.bounds-t-at
+bounds-t-at c = inside c
 
 pub loop-at-preserved : goal.loop-at-preserved
 loop-at-preserved c =
     let t = c.args.t.now in
-    let e = on (goal.at.loop-at-preserved c).In-loop-at in
-    (e, get_or_default t (c.loop-at.at + 1) _ free_slot (next-inside t (c.loop-at.at + 1) c.args.from e c.requires))
+    let l = c.loop-at in
+    let h = inside (goal.at.loop-at-preserved c).At-loop-at in
+    next-on t l.at h (ap is_free (sym (get_or_default t l.at _ free_slot h)) ∙ sym c.is_free.ensures ∙ c.loop-at-test.true) ∙ l.invariant
 
 pub returns : goal.returns
 returns c =
-    let l = c.loop-at in
     let t = c.args.t.now in
-    let off : Holds (not (is_taken (get_or t l.at free_slot))) = subst (λ (m : Message). Holds (not (is_taken m))) l.invariant.1 (subst (λ (b : Bool). Holds (not b)) (sym c.loop-at-test.false ∙ c.is_taken.ensures) tt) in
-    sym (next-off t l.at (next-inside t l.at c.args.from l.invariant.0 c.requires) off) ∙ l.invariant.0
+    let l = c.loop-at in
+    let h = inside (goal.at.returns c).At-loop-at in
+    sym (next-off t l.at h (ap is_free (sym (get_or_default t l.at _ free_slot h)) ∙ sym c.is_free.ensures ∙ c.loop-at-test.false)) ∙ l.invariant

@@ -1,20 +1,17 @@
-use Rattle.std.proofs.Common.{sym, ◌∙◌, ap, subst, ◌+◌, length, drop, not}
-use lib.Dec.{T as Holds}
+use Rattle.std.proofs.Common.{sym, ◌∙◌, ap, ◌+◌, drop, arith}
 use Rattle.decisions.specs.Sending.{lacking}
-use Rattle.machine.specs.Slots.{searching}
-use Rattle.machine.proofs.Searching.{room-on, room-off, searching-inside}
+use mathlib.Core.Logic.{inl, inr}
+use Rattle.machine.proofs.Searching.{room-on, room-off}
 use Rattle.machine.proofs.lent.room.Goals as goal
 
 pub loop-m-preserved : goal.loop-m-preserved
 loop-m-preserved c =
     let l = c.loop-m in
     let t = c.args.t.now in
-    let on : Holds (searching l.at (length t) l.left) = subst Holds (sym c.loop-m-test.true ∙ c.is_searching.ensures) tt in
-    ap (λ left. lacking left (drop (l.at + 1) t)) c.left_after-left.ensures ∙ room-on t l.at l.left _ (searching-inside l.at (length t) l.left on) ∙ l.invariant
+    ap (λ left. lacking left (drop (l.m-index + 1) t)) c.left_after-left.ensures ∙ room-on t l.m-index l.left _ c.loop-m-test.true ∙ l.invariant
 
-pub returns : goal.returns
-returns c =
-    let l = c.loop-m in
-    let t = c.args.t.now in
-    let off : Holds (not (searching l.at (length t) l.left)) = subst (λ b. Holds (not b)) (sym c.loop-m-test.false ∙ c.is_searching.ensures) tt in
-    sym (room-off t l.at l.left off) ∙ l.invariant
+pub returns-after-loop-m : goal.returns-after-loop-m
+returns-after-loop-m c = let l = c.loop-m in sym (room-off c.args.t.now l.m-index l.left (inr c.loop-m-test.false)) ∙ l.invariant
+
+pub returns-then-left-eq0 : goal.returns-then-left-eq0
+returns-then-left-eq0 c = let l = c.loop-m in sym (room-off c.args.t.now l.m-index l.left (inl (omega arith))) ∙ l.invariant

@@ -1,9 +1,5 @@
-use Rattle.std.proofs.Common.{◌≡◌, ◌-◌}
 use Rattle.machine.proofs.Posting.{Sends}
 use Rattle.machine.proofs.lent.send_all.Given as goal
 
 abbrev pub invariant-loop-j : goal.invariant-loop-j
-invariant-loop-j l = (Sends l.s l.initial.t l.j l.at l.t) × (l.count ≡ l.s.count)
-
-abbrev pub decreases-loop-j : goal.decreases-loop-j
-decreases-loop-j l = l.count - l.j
+invariant-loop-j l = Sends l.s l.initial.t l.j l.at l.t

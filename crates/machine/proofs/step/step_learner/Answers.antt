@@ -1,32 +1,48 @@
-use Rattle.std.proofs.Common.{◌≡◌, sym, ◌∙◌, ap, subst, ℕ, ◌<◌, length, get_or, set}
+use Rattle.std.proofs.Common.{◌≡◌, ◌∙◌, ap, ◌<◌, length, get_or, set, Err, rules}
+use Rattle.choice.specs.Refusals.{numbered}
 use Rattle.sizes.proofs.SizeLaws.{bounds}
 use Rattle.model.specs.Records.{fresh_learner}
-use Rattle.decisions.specs.declared.arms.Ear.{Ear}
-use Rattle.decisions.specs.declared.arms.Listened.{Listened}
 use Rattle.decisions.specs.Change.{slot_after}
-use Rattle.decisions.specs.Arms.{listen_of}
+use Rattle.decisions.specs.Arms.{listen_of, heard_in, by_learner}
 use Rattle.decisions.proofs.Deciding.{heard-in}
 use Rattle.machine.specs.Stepping.{index_in, party_of}
 use Rattle.machine.specs.Roles.{ear_of, put_ear}
-use Rattle.machine.proofs.Readiness.{within_in}
-use Rattle.machine.proofs.Ears.{ear-says, ear-left, ear-slots}
+use Rattle.machine.proofs.Readiness.{index-is, index-there}
+use Rattle.machine.proofs.Ears.{hears-well, ear-refused, ear-says, ear-left, ear-slots}
 use Rattle.machine.proofs.step.step_learner.Goals as goal
-use Rattle.machine.proofs.step.step_learner.Goals.{After-learner_at-li}
+use Rattle.machine.proofs.step.step_learner.Goals.{After-index_in-i, After-load_ear-x}
 
--- the learner that the event finds is the one of its number, and is there
-number : (c : After-learner_at-li) → c.learner_at-li.result.0 ≡ index_in (party_of c.args.e c.args.m) c.args.z.learners
-number c = ap (λ p. p.0) c.learner_at-li.ensures ∙ ap (λ (n : ℕ). index_in n c.args.z.learners) c.party_of-i.ensures
-
-there : (c : After-learner_at-li) → c.learner_at-li.result.0 < length c.args.ls.now
+-- the learner that the event finds is there
+there : (c : After-index_in-i) → c.index_in-i.result < length c.args.ls.now
 there c =
-    subst (λ (n : ℕ). n < length c.args.ls.now) (sym (number c))
-    (within_in (party_of c.args.e c.args.m) c.args.z.learners (length c.args.ls.now) c.requires.1.0 (bounds c.args.z c.requires.1.1.0).some-learners)
+    let a = c.args in
+    index-there a.ls.now (party_of a.e a.m) a.z.learners c.requires.1.0 (bounds a.z c.requires.1.1.0).some-learners c.party_of.ensures c.index_in-i.ensures
+
+place : (c : After-index_in-i) → c.index_in-i.result ≡ index_in (party_of c.args.e c.args.m) c.args.z.learners
+place c =
+    let a = c.args in
+    index-is a.ls.now (party_of a.e a.m) a.z.learners c.requires.1.0 (bounds a.z c.requires.1.1.0).some-learners c.party_of.ensures c.index_in-i.ensures
+
+-- what it hears by its one place is what the learner hears
+heard : (c : After-load_ear-x) → let a = c.args in
+    by_learner (heard_in a.z a.e a.m c.load_ear-x.result) ≡ by_learner (listen_of a.z a.e a.m (ear_of (get_or a.ls.now (index_in (party_of a.e a.m) a.z.learners) fresh_learner) a.m.proposer.0))
+heard c =
+    let a = c.args in
+    let e = place (goal.at.After-load_ear-x c).After-index_in-i in
+    ap by_learner (heard-in a.z a.e a.m c.load_ear-x.result c.requires.0 ∙ ap (listen_of a.z a.e a.m) (c.load_ear-x.ensures ∙ (λ j. ear_of (get_or a.ls.now (e j) fresh_learner) a.m.proposer.0)))
 
 pub load_ear-x-requires : goal.load_ear-x-requires
-load_ear-x-requires c = there (goal.at.load_ear-x-requires c).After-learner_at-li
+load_ear-x-requires c = there (goal.at.load_ear-x-requires c).After-index_in-i
 
 pub store_ear-requires : goal.store_ear-requires
-store_ear-requires c = there (goal.at.store_ear-requires c).After-learner_at-li
+store_ear-requires c = there (goal.at.store_ear-requires c).After-index_in-i
+
+pub returns-in_err-heeded : goal.returns-in_err-heeded
+returns-in_err-heeded c =
+    let a = c.args in
+    let e : c.from_residual.result ≡ Err c.in_err-heeded.field-0.0 = search rules in
+    let left = ear-refused a.z a.e a.k a.m a.ls.now a.t.now c.requires.0 _ c.requires.1.1.1.1 (c.in_err-heeded.ensures ∙ heard (goal.at.returns-in_err-heeded c).After-load_ear-x) in
+    (ap numbered e ∙ left.0, left.1)
 
 pub returns : goal.returns
 returns c =
@@ -34,22 +50,13 @@ returns c =
     let ls = a.ls.now in
     let t = a.t.now in
     let h = c.requires.0 in
-    let i = index_in (party_of a.e a.m) a.z.learners in
     let p = a.m.proposer.0 in
-    let l = get_or ls i fresh_learner in
-    let y = listen_of a.z a.e a.m (ear_of l p) in
-    let ei = number (goal.at.returns c).After-learner_at-li in
-    let ep : c.proposer_of-p.result.0 ≡ p = ap (λ q. q.0) c.proposer_of-p.ensures in
-    let ex : c.load_ear-x.result ≡ ear_of l p = c.load_ear-x.ensures ∙ ap (λ (n : ℕ). ear_of (get_or ls n fresh_learner) c.proposer_of-p.result.0) ei ∙ ap (ear_of l) ep in
-    let ey : c.listen-y.result ≡ y = c.listen-y.ensures ∙ heard-in a.z a.e a.m c.load_ear-x.result h ∙ ap (listen_of a.z a.e a.m) ex in
-    let e2 : c.ear_in-x2.result ≡ y.ear = c.ear_in-x2.ensures ∙ ap (λ (x : Listened). x.ear) ey in (
-      c.said_in.ensures ∙ ap (λ (x : Listened). x.answer) ey ∙ ear-says a.z a.e a.k a.m ls t h,
+    let l = get_or ls (index_in (party_of a.e a.m) a.z.learners) fresh_learner in
+    let ei = place (goal.at.returns c).After-index_in-i in
+    let g = hears-well (listen_of a.z a.e a.m (ear_of l p)) c.in_ok-heeded.heeded (c.in_ok-heeded.ensures ∙ heard (goal.at.returns c).After-load_ear-x) in (
+      g.0 ∙ ear-says a.z a.e a.k a.m ls t h,
       (
-        c.store_ear.ensures
-            ∙ ap (λ (n : ℕ). set ls n (put_ear (get_or ls n fresh_learner) c.proposer_of-p.result.0 c.ear_in-x2.result)) ei
-            ∙ ap (λ (n : ℕ). set ls i (put_ear l n c.ear_in-x2.result)) ep
-            ∙ ap (λ (x : Ear). set ls i (put_ear l p x)) e2
-            ∙ ear-left a.z a.e a.k a.m ls t h,
-        c.store_message.ensures ∙ ap (set t a.k) (c.slot_heard-m2.ensures ∙ ap (λ (x : Listened). slot_after x.frees a.m) ey) ∙ ear-slots a.z a.e a.k a.m ls t h,
+        c.store_ear.ensures ∙ (λ j. set ls (ei j) (put_ear (get_or ls (ei j) fresh_learner) p (g.1.0 j))) ∙ ear-left a.z a.e a.k a.m ls t h,
+        ap (set t a.k) c.slot_after.ensures ∙ (λ j. set t a.k (slot_after (g.1.1 j) a.m)) ∙ ear-slots a.z a.e a.k a.m ls t h,
       ),
     )

@@ -1,30 +1,45 @@
-use Rattle.std.proofs.Common.{◌≡◌, sym, ◌∙◌, ap, subst, ℕ, ◌<◌, length, get_or, set}
+use Rattle.std.proofs.Common.{◌≡◌, ◌∙◌, ap, ◌<◌, length, get_or, set, Err, arith, rules}
+use Rattle.choice.specs.Refusals.{numbered}
 use Rattle.sizes.proofs.SizeLaws.{bounds}
 use Rattle.model.specs.Records.{fresh_proposer, fresh_acceptor, fresh_learner}
-use Rattle.decisions.specs.declared.arms.Decision.{Decision}
-use Rattle.decisions.specs.Change.{slot_after}
-use Rattle.decisions.specs.Arms.{decide_of, finish_of, told_in, plain_answer}
-use Rattle.decisions.proofs.Deciding.{told_in_lem}
-use Rattle.machine.specs.Stepping.{index_in, party_of}
-use Rattle.machine.proofs.Readiness.{within_in}
-use Rattle.machine.proofs.Arms.{said-as, told-says, told-left, told-slots, told-quiet}
+use Rattle.model.specs.declared.Proposer.{Proposer}
+use Rattle.decisions.specs.Change.{of_proposer, slot_after}
+use Rattle.decisions.specs.Arms.{decide_of, finish_of, told_in, by_proposer}
+use Rattle.decisions.proofs.Deciding.{told_in_lem, given-ok}
+use Rattle.machine.specs.Stepping.{index_in, party_of, Left}
+use Rattle.machine.proofs.Readiness.{same, index-is, index-there, found}
+use Rattle.machine.proofs.Arms.{told-refused, told-done, told-left, told-slots}
 use Rattle.machine.proofs.step.step_told.Goals as goal
-use Rattle.machine.proofs.step.step_told.Goals.{After-proposer_at-pi}
+use Rattle.machine.proofs.step.step_told.Goals.{After-index_in-i}
 
--- the proposer that the event finds is the one of its number, and is there
-number : (c : After-proposer_at-pi) → c.proposer_at-pi.result.0 ≡ index_in (party_of c.args.e c.args.m) c.args.z.proposers
-number c = ap (λ p. p.0) c.proposer_at-pi.ensures ∙ ap (λ (n : ℕ). index_in n c.args.z.proposers) c.party_of-i.ensures
-
-there : (c : After-proposer_at-pi) → c.proposer_at-pi.result.0 < length c.args.ps.now
+-- the proposer that the event finds is there
+there : (c : After-index_in-i) → c.index_in-i.result < length c.args.ps.now
 there c =
-    subst (λ (n : ℕ). n < length c.args.ps.now) (sym (number c))
-    (within_in (party_of c.args.e c.args.m) c.args.z.proposers (length c.args.ps.now) c.requires.1.0 (bounds c.args.z c.requires.1.1.0).some-proposers)
+    let a = c.args in
+    index-there a.ps.now (party_of a.e a.m) a.z.proposers c.requires.1.0 (bounds a.z c.requires.1.1.0).some-proposers c.party_of.ensures c.index_in-i.ensures
 
-pub load_proposer-q-requires : goal.load_proposer-q-requires
-load_proposer-q-requires c = there (goal.at.load_proposer-q-requires c).After-proposer_at-pi
+pub bounds-ps-i : goal.bounds-ps-i
+bounds-ps-i c = there c
 
-pub store_proposer-requires : goal.store_proposer-requires
-store_proposer-requires c = there (goal.at.store_proposer-requires c).After-proposer_at-pi
+pub offset_bounds-ps-i : goal.offset_bounds-ps-i
+offset_bounds-ps-i c = let h = there c in omega arith
+
+-- what it is told is what is decided of all records, and no slot is lacking for it
+told : (c : After-index_in-i) (x : Proposer) → let a = c.args in
+    let q = get_or a.ps.now (index_in (party_of a.e a.m) a.z.proposers) fresh_proposer in
+    by_proposer (told_in a.z a.e a.m (get_or a.ps.now c.index_in-i.result x)) ≡ by_proposer (finish_of (decide_of a.z a.e a.m q fresh_acceptor fresh_learner) 0 q fresh_acceptor)
+told c x =
+    let a = c.args in
+    let q = get_or a.ps.now (index_in (party_of a.e a.m) a.z.proposers) fresh_proposer in
+    let e = found a.ps.now (party_of a.e a.m) a.z.proposers c.requires.1.0 (bounds a.z c.requires.1.1.0).some-proposers c.party_of.ensures c.index_in-i.ensures x fresh_proposer in
+    ap (λ (y : Proposer). by_proposer (told_in a.z a.e a.m y)) e ∙ ap by_proposer (told_in_lem a.z a.e a.m q c.requires.0)
+
+pub returns-in_err-told : goal.returns-in_err-told
+returns-in_err-told c =
+    let a = c.args in
+    let e : c.from_residual.result ≡ Err c.in_err-told.field-0.0 = search rules in
+    let left = told-refused a.z a.e a.k a.m a.ps.now a.t.now c.requires.0 _ c.requires.1.1.1.1 (c.in_err-told.ensures ∙ told (goal.at.returns-in_err-told c).After-index_in-i _) in
+    (ap numbered e ∙ ap (λ (x : Left). x.answer) left, (same _ a.ps.now _ ∙ ap (λ (x : Left). x.proposers) left, ap (λ (x : Left). x.slots) left))
 
 pub returns : goal.returns
 returns c =
@@ -32,15 +47,14 @@ returns c =
     let ps = a.ps.now in
     let t = a.t.now in
     let h = c.requires.0 in
-    let i = index_in (party_of a.e a.m) a.z.proposers in
-    let q = get_or ps i fresh_proposer in
+    let p = party_of a.e a.m in
+    let q = get_or ps (index_in p a.z.proposers) fresh_proposer in
     let f = finish_of (decide_of a.z a.e a.m q fresh_acceptor fresh_learner) 0 q fresh_acceptor in
-    let ei = number (goal.at.returns c).After-proposer_at-pi in
-    let eq = c.load_proposer-q.ensures ∙ ap (λ (n : ℕ). get_or ps n fresh_proposer) ei in
-    let ef : c.tell-f.result ≡ f = c.tell-f.ensures ∙ ap (told_in a.z a.e a.m) eq ∙ told_in_lem a.z a.e a.m q h in (
-      c.reply.ensures ∙ ap (plain_answer a.e) ef ∙ said-as a.z a.e f a.m fresh_learner (told-quiet a.z a.e a.k a.m ps t h) ∙ told-says a.z a.e a.k a.m ps t h,
+    let ei = index-is ps p a.z.proposers c.requires.1.0 (bounds a.z c.requires.1.1.0).some-proposers c.party_of.ensures c.index_in-i.ensures in
+    let g = given-ok f.no (of_proposer f.change) c.in_ok-told.told (c.in_ok-told.ensures ∙ told (goal.at.returns c).After-index_in-i _) in (
+      told-done a.z a.e a.k a.m ps t h g.0,
       (
-        c.store_proposer.ensures ∙ ap (λ (n : ℕ). set ps n c.proposer_in-q2.result) ei ∙ ap (set ps i) (c.proposer_in-q2.ensures ∙ ap (λ (d : Decision). d.change.proposer) ef) ∙ told-left a.z a.e a.k a.m ps t h,
-        c.store_message.ensures ∙ ap (set t a.k) (c.slot_in-m2.ensures ∙ ap (λ (d : Decision). slot_after d.change.frees a.m) ef) ∙ told-slots a.z a.e a.k a.m ps t h,
+        (λ i. set ps (ei i) (g.1 i).party) ∙ told-left a.z a.e a.k a.m ps t h,
+        ap (set t a.k) c.slot_after.ensures ∙ (λ i. set t a.k (slot_after (g.1 i).frees a.m)) ∙ told-slots a.z a.e a.k a.m ps t h,
       ),
     )

@@ -1,4 +1,0 @@
-use Rattle.decisions.proofs.sending.silence_of.Goals as goal
-
-pub returns : goal.returns
-returns c = simp c.free-message.ensures

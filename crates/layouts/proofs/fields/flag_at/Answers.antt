@@ -1,4 +1,0 @@
-use Rattle.layouts.proofs.fields.flag_at.Goals as goal
-
-pub returns : goal.returns
-returns c = simp c.byte_at.ensures

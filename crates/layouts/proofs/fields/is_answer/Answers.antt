@@ -1,4 +1,0 @@
-use Rattle.layouts.proofs.fields.is_answer.Goals as goal
-
-pub returns : goal.returns
-returns c = cc

@@ -1,4 +1,0 @@
-use Rattle.layouts.proofs.fields.is_flag.Goals as goal
-
-pub returns : goal.returns
-returns c = simp c.byte_at.ensures

@@ -1,4 +1,0 @@
-use Rattle.machine.proofs.step.finish_table.Goals as goal
-
-pub returns : goal.returns
-returns c = simp (c.finish.ensures, c.fresh-2.ensures, c.fresh.ensures)

@@ -1,4 +1,0 @@
-use Rattle.model.proofs.Heard.unheard.Goals as goal
-
-pub returns : goal.returns
-returns c = cc

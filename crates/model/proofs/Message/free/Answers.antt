@@ -1,4 +1,0 @@
-use Rattle.model.proofs.Message.free.Goals as goal
-
-pub returns : goal.returns
-returns c = cc

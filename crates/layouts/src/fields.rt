@@ -65,7 +65,8 @@ fn put_byte(bytes: &mut [u8], at: usize, byte: u8)
     }
 }
 
-// Puts the bytes of a field from a place on.
+// Puts the bytes of a field from a place on. Inlined, as is what puts a set, so that a field is stored at once where a caller knows that the bytes are there.
+#[inline(always)]
 fn put<const N: usize>(bytes: &mut [u8], at: u16, field: &[u8; N])
     ensures { bytes.new ≡ sets bytes.old at field.now }
 {
@@ -94,6 +95,7 @@ pub fn set_at(bytes: &[u8], at: u16) -> Scans
     Scans::from(word_at(bytes, at))
 }
 
+#[inline(always)]
 pub(crate) fn put_set(bytes: &mut [u8], at: u16, set: Scans)
     ensures { bytes.new ≡ sets bytes.old at (set_bytes set) }
 {

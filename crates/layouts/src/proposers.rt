@@ -89,9 +89,14 @@ pub fn is_proposer(kept: &[u8], acceptors: u64, scans: u64) -> bool
     proposer_at(kept).in_range(z)
 }
 
-// The proposer whose record the bytes are, or none.
+// The proposer whose record the bytes are, or none. Inlined, and without a closure, so that a call that has one knows how many bytes there are and puts each field back at once.
+#[inline(always)]
 pub fn read_proposer(kept: &[u8], acceptors: u64, scans: u64) -> Option<Proposer>
     ensures { result ≡ (if is_proposer acceptors scans kept.now then Some (proposer_at kept.now) else None) }
 {
-    is_proposer(kept, acceptors, scans).then(|| proposer_at(kept))
+    if is_proposer(kept, acceptors, scans) {
+        Some(proposer_at(kept))
+    } else {
+        None
+    }
 }

@@ -1,26 +1,27 @@
--- A test of the first records of a list, one after the other.
-use mathlib.Core.Bool.{Bool, true, ◌&&◌}
-use mathlib.Core.List.{List, [], ◌∷◌}
-use mathlib.Core.Path.{◌≡◌, refl, sym}
-use Prim.Native.Nat.{ℕ, zero, suc, ◌+◌, ◌<◌}
+-- A test of every record of a list, from a place on.
+use mathlib.Core.Bool.{Bool, true, false, ◌&&◌}
+use mathlib.Core.List.{List}
+use mathlib.Core.Path.{◌≡◌, ◌∙◌}
+use Prim.Native.Nat.{ℕ, ◌+◌, ◌≤◌, ◌<◌}
 use native.Mathlib.Numerals.{add-one}
-use native.Mathlib.Omega.{arith}
-use lib.ListN.{length, take}
+use lib.ListN.{length, get_or, drop, drop_of_length-le}
+use lib.Seq.{drop-cons}
 use Rattle.model.specs.Ranges.{all}
 
-some : (n : ℕ) → suc n ≡ 0 → ⊥
-some n e = omega arith
-
-module _ {B : Type 0} (f : B → Bool) where
-  -- the next record, and those past it
-  pub next : (left : ℕ) {n : ℕ} {l rest : List B} {x : B} → (l ≡ x ∷ rest) × (left + 1 ≡ n) → all f (take n l) ≡ (f x && all f (take left rest))
-  unfolding all
-  next left h = rw (h.0, sym h.1, add-one left)
-
+module _ {B : Type 0} (f : B → Bool) (l : List B) (i : ℕ) where
   -- past the last
-  pub past : (n : ℕ) (l : List B) → (0 < n → length l ≡ 0) → all f (take n l) ≡ true
+  pub past : length l ≤ i → all f (drop i l) ≡ true
   unfolding all
-  past zero [] h = refl
-  past zero (x ∷ l) h = refl
-  past (suc n) [] h = refl
-  past (suc n) (x ∷ l) h = absurd (some (length l) (h (omega arith)))
+  past h = rw (drop_of_length-le l h)
+
+  module _ (d : B) (there : i < length l) where
+    -- the record there, and those past it
+    next : all f (drop i l) ≡ (f (get_or l i d) && all f (drop (i + 1) l))
+    unfolding all
+    next = rw (add-one i, drop-cons l i d there)
+
+    pub passes : f (get_or l i d) ≡ true → all f (drop i l) ≡ all f (drop (i + 1) l)
+    passes e = next ∙ rw e
+
+    pub fails : f (get_or l i d) ≡ false → all f (drop i l) ≡ false
+    fails e = next ∙ rw e

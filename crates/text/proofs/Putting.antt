@@ -3,28 +3,21 @@ use Rattle.std.proofs.Common.{◌≡◌, ℕ, ◌+◌, ◌-◌, ◌≤◌, ◌<�
 use Rattle.std.proofs.lemmas.Bool.{cases_lt}
 use Rattle.std.proofs.lemmas.List.Edits.{sets, sets-eq}
 use borrow.Rule.Slice.PartMut.{put_mid}
-use lib.ListN.{set, drop_of_length-le}
-use lib.Seq.{length-sets}
+use native.Mathlib.Numerals.{add-one}
+use lib.ListN.{set, get_or, drop_of_length-le}
+use lib.Seq.{drop-cons}
 use Rattle.std.proofs.lemmas.List.{set-append_right}
 use Rattle.forms.proofs.Steps.{sets-out, sets-append}
 
--- what is past the end is left out
-cut : (d word : List ℕ) (at n : ℕ) → n ≤ length word → length d ≤ at + n → sets d at (take n word) ≡ sets d at word
-cut d word at n fits h =
-    let size : length (take n word) ≡ n = length-take-le n word fits in
-    let out : sets (sets d at (take n word)) (at + length (take n word)) (drop n word) ≡ sets d at (take n word) = sets-out (drop n word) (sets d at (take n word)) (at + length (take n word)) (omega (arith, size, length-sets d at (take n word), h)) in
-    sym (ap (sets d at) (sym (take-append-drop n word)) ∙ sets-append (take n word) (drop n word) d at ∙ out)
+-- what is left of a word, put from its place on, makes the whole: with one byte more, and where the room or the word ends
+pub put_next : (room₀ word room : List ℕ) (i : ℕ) → i < length word → sets room i (drop i word) ≡ sets room₀ 0 word → sets (set room i (get_or word i 0)) (i + 1) (drop (i + 1) word) ≡ sets room₀ 0 word
+put_next room₀ word room i h e = rw (add-one i) (rw (drop-cons word i 0 h) at e)
 
--- a word put at the start of a room, as far as it goes
-pub put_first : (room word : List ℕ) (n : ℕ) → n ≡ min (length room) (length word) → take n word ++ drop n room ≡ sets room 0 word
-put_first room word n q =
-    let size : length (take n word) ≡ n = length-take-le n word (omega (arith, q)) in
-    let end : 0 + length (take n word) ≡ n = omega (arith, size) in
-    let whole : sets room 0 (take n word) ≡ take n word ++ drop n room = sets-eq (take n word) room 0 (omega (arith, q, size)) ∙ ap (λ k. take n word ++ drop k room) end in
-    sym whole ∙ ⊎_elim
-    (λ (fewer : n < length word). cut room word 0 n (omega (arith, q)) (omega (arith, q, fewer)))
-    (λ (all : length word ≤ n). ap (sets room 0) (take_all n word all))
-    (cases_lt n (length word))
+pub put_last : (room₀ word room : List ℕ) (i : ℕ) → min (length room) (length word) ≤ i → sets room i (drop i word) ≡ sets room₀ 0 word → room ≡ sets room₀ 0 word
+put_last room₀ word room i h e = ⊎_elim
+    (λ (fewer : length room < length word). sym (sets-out (drop i word) room i (omega (arith, h, fewer))) ∙ e)
+    (λ (all : length word ≤ length room). let none : length word ≤ i = omega (arith, h, all) in rw (drop_of_length-le word none) at e)
+    (cases_lt (length room) (length word))
 
 -- what is put into the second of two parts is put into the whole
 sets-part : (a b word : List ℕ) (i : ℕ) → a ++ sets b i word ≡ sets (a ++ b) (length a + i) word

@@ -13,12 +13,13 @@ pub fn put_word(buffer: &mut [u8], at: usize, word: &[u8])
     put_first(room, word)
 }
 
-// As many bytes of a word as there is room for.
+// As many bytes of a word as there is room for, one by one: a copy between slices asks the C library for `memmove`.
 fn put_first(room: &mut [u8], word: &[u8])
     ensures { room.new ≡ sets room.old 0 word.now }
 {
-    let n = room.len().min(word.len());
-    room[..n].copy_from_slice(&word[..n]);
+    for i in 0..room.len().min(word.len()) {
+        room[i] = word[i];
+    }
 }
 
 // The byte of a digit.

@@ -1,7 +1,10 @@
 -- `text::put_first` meets its contract. Assumes nothing.
-use Rattle.text.proofs.Putting.{put_first}
+use Rattle.text.proofs.Putting.{put_next, put_last}
+use native.Mathlib.Omega.{arith}
 use Rattle.text.proofs.put_first.Goals as goal
 
+pub loop-i-preserved : goal.loop-i-preserved
+loop-i-preserved c = let l = c.loop-i in put_next c.args.room.now c.args.word.now l.room l.i (omega arith) l.invariant
+
 pub returns : goal.returns
-returns c = let a = c.args in
-    rw c.copy_from_slice.ensures.after (put_first a.room.now a.word.now c.min-n.result c.min-n.ensures)
+returns c = let l = c.loop-i in put_last c.args.room.now c.args.word.now l.room l.i (omega arith) l.invariant

@@ -1,10 +1,8 @@
-use Rattle.std.proofs.Common.{◌≡◌}
+use Rattle.std.proofs.Common.{◌≡◌, drop}
 use lib.ListN.{take}
-use Rattle.model.specs.Ranges.{all, heard_in_range}
+use Rattle.model.specs.Ranges.{all, heard_in_range, learner_in_range}
 use Rattle.model.proofs.learners.LearnerRecord.in_range.Given as goal
 
 -- what is left to say is said by the places that are left
-abbrev pub invariant-loop-heard : goal.invariant-loop-heard
-invariant-loop-heard l =
-    all (heard_in_range l.fn.z) (take l.fn.z.proposers l.fn.self.heard)
-    ≡ all (heard_in_range l.fn.z) (take l.heard-iterator.n l.heard-iterator.iter.rest.now)
+abbrev pub invariant-loop-place : goal.invariant-loop-place
+invariant-loop-place l = learner_in_range l.z l.self ≡ all (heard_in_range l.z) (drop l.place (take l.z.proposers l.self.heard))

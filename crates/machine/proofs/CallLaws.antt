@@ -1,4 +1,4 @@
--- Laws of the calls. The one that makes records fresh: where it refuses nothing every record is made fresh, and otherwise none. A run's refusal is that of its tests.
+-- Laws of the calls. The one that makes records fresh: where it refuses nothing every record is made fresh, and otherwise none. What a step and a run refuse is what their tests refuse.
 use mathlib.Core.Path.{◌≡◌, refl, sym, ap, subst}
 use Prim.Native.Nat.{ℕ}
 use mathlib.Core.Bool.{Bool, true, ◌&&◌}
@@ -11,14 +11,14 @@ use Rattle.sizes.specs.Sizes.{sizes_in_range}
 use Rattle.sizes.specs.declared.Sizes.{Sizes}
 use Rattle.model.specs.Records.{State, fresh, fresh_proposer, fresh_acceptor, fresh_learner, free_slot}
 use Rattle.choice.specs.Tests.{◌unless◌, ◌⨾◌, ok}
-use Rattle.model.specs.Ranges.{all, proposer_in_range, acceptor_in_range, learner_in_range, message_in_range, lengths_in_range, records_in_range}
+use Rattle.model.specs.Ranges.{lengths_in_range, records_in_range}
 use Rattle.model.specs.declared.Proposer.{Proposer}
 use Rattle.model.specs.declared.Acceptor.{Acceptor}
 use Rattle.model.specs.declared.Learner.{Learner}
 use Rattle.model.specs.declared.Message.{Message}
 use Rattle.choice.proofs.Tests.{and_l, and_r}
 use Rattle.machine.specs.Calls.{lent, Leaves, FreshCall, run_no}
-use Rattle.machine.specs.Counting.{lengths_are, events_no}
+use Rattle.machine.specs.Counting.{lengths_are, are_sound, events_no}
 
 module _ (z : Sizes) (ps : List Proposer) (acs : List Acceptor) (ls : List Learner) (t : List Message) where
   abbrev s : State
@@ -77,9 +77,12 @@ module _ (z : Sizes) (ps : List Proposer) (acs : List Acceptor) (ls : List Learn
         ),
       )
 
+  -- what a step asks for, by its tests
+  pub step-sound : are_sound z ps acs ls t ≡ records_in_range z s
+  unfolding records_in_range lengths_in_range
+  step-sound = refl
+
   -- the refusal of a run, by its tests
-  pub run-refused : (ns log : List ℕ) (n : ℕ)
-      → (1 unless (sized && all (proposer_in_range z) ps && all (acceptor_in_range z) acs && all (learner_in_range z) ls && all (message_in_range z) t) ⨾ events_no (length ns) (length log) n)
-      ≡ run_no z s ns n log
+  pub run-refused : (ns log : List ℕ) (n : ℕ) → (1 unless are_sound z ps acs ls t ⨾ events_no (length ns) (length log) n) ≡ run_no z s ns n log
   unfolding records_in_range lengths_in_range
   run-refused ns log n = refl

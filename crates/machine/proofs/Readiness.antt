@@ -7,7 +7,6 @@ use mathlib.Core.Bool.{Bool, true, false, not}
 use mathlib.Core.List.{List, [], ◌∷◌}
 use lib.Dec.{T as Holds, eqb, ltb, eqb→eq, ltb→lt}
 use lib.ListN.{length, get_or, set}
-use Rattle.std.proofs.lemmas.List.{get_or_default}
 use Rattle.std.specs.Prelude.{if◌then◌else◌}
 use Rattle.sizes.specs.declared.Sizes.{Sizes}
 use Rattle.model.specs.Records.{free_slot}
@@ -38,16 +37,18 @@ pub within_in : (i n k : ℕ) → n ≤ k → 1 ≤ n → index_in i n < k
 unfolding index_in
 within_in i n k e l = within_by (ltb i n) i n k (ltb→lt i n) e l
 
--- the record that is read is that of the party's number
-module _ {B : Type 0} (l : List B) (p n : ℕ) (many : n ≤ length l) (some : 1 ≤ n) {p' r : ℕ} (party : p' ≡ p) (index : r ≡ index_in p' n) where
-  pub index-is : r ≡ index_in p n
-  index-is = index ∙ ap (λ (k : ℕ). index_in k n) party
+-- a number in a type of so many values
+small-by : (t : Bool) (i n k : ℕ) → (Holds t → i < n) → n ≤ k → 0 < k → (if t then i else 0) < k
+small-by true i n k h e l = omega (arith, h tt)
+small-by false i n k h e l = l
 
-  pub index-there : r < length l
-  index-there = subst (λ (k : ℕ). k < length l) (sym index-is) (within_in p n (length l) many some)
+pub small-in : (i n k : ℕ) → n ≤ k → 0 < k → index_in i n < k
+unfolding index_in
+small-in i n k e l = small-by (ltb i n) i n k (ltb→lt i n) e l
 
-  pub found : (d₀ d : B) → get_or l r d₀ ≡ get_or l (index_in p n) d
-  found d₀ d = get_or_default l r d₀ d index-there ∙ ap (λ (k : ℕ). get_or l k d) index-is
+-- the record of a party's number
+pub index-there : {B : Type 0} (l : List B) (p n : ℕ) {r : ℕ} → n ≤ length l → 1 ≤ n → r ≡ index_in p n → r < length l
+index-there l p n many some index = subst (λ (k : ℕ). k < length l) (sym index) (within_in p n (length l) many some)
 
 module _ (z : Sizes) (ps : List Proposer) (acs : List Acceptor) (ls : List Learner) (t : List Message) (fit : Fits z ps acs ls t) where
   pub proposer-there : (i : ℕ) → index_in i z.proposers < length ps

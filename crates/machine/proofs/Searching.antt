@@ -1,17 +1,18 @@
 -- Laws of the search for free slots: what a turn of `room` and of `next_free` keeps, and what stands where they stop.
-use mathlib.Core.Path.{◌≡◌, refl, sym, ◌∙◌, ap}
+use mathlib.Core.Path.{◌≡◌, refl, sym, ◌∙◌, ap, subst}
 use Prim.Native.Nat.{ℕ, suc, ◌+◌, ◌-◌, ◌<◌, ◌≤◌}
 use native.Mathlib.Omega.{arith}
-use mathlib.Core.Bool.{Bool, true, false}
+use mathlib.Core.Bool.{Bool, true, false, not, ◌&&◌}
 use mathlib.Core.List.{List, [], ◌∷◌}
-use mathlib.Core.Logic.{◌⊎◌, inl, inr}
+use lib.Dec.{T as Holds, ltb, nltb→le}
+use borrow.Author.Tests.{le-ltb}
 use lib.ListN.{length, get_or, drop, drop_of_length-le}
 use Rattle.std.specs.Prelude.{if◌then◌else◌}
 use Rattle.model.specs.Records.{free_slot}
 use Rattle.model.specs.Table.{is_free, free_slots}
 use Rattle.model.specs.declared.Message.{Message}
 use Rattle.decisions.specs.Sending.{lacking}
-use Rattle.machine.specs.Slots.{left_after, lowest, lowest_from, FreeFrom}
+use Rattle.machine.specs.Slots.{left_after, searching, lowest, lowest_from, FreeFrom}
 use Rattle.machine.proofs.LeftOver.{drop-next}
 
 -- ---- the search for room
@@ -31,13 +32,28 @@ none_free : (k : ℕ) → lacking k [] ≡ k
 unfolding free_slots
 none_free k = omega arith
 
-nothing-less : (k f : ℕ) → k ≡ 0 → k - f ≡ k
+nothing-less : (k f : ℕ) → k ≤ 0 → k - f ≡ k
 nothing-less k f h = omega arith
 
--- nothing is still to be found, or nothing is left of the table
-pub room-off : (l : List Message) (i k : ℕ) → (k ≡ 0) ⊎ (length l ≤ i) → lacking k (drop i l) ≡ k
-room-off l i k (inl found) = nothing-less k (free_slots (drop i l)) found
-room-off l i k (inr past) = ap (lacking k) (drop_of_length-le l past) ∙ none_free k
+-- it stops where a test fails
+pub stops-l : (a b : Bool) → Holds (not a) → Holds (not (a && b))
+stops-l false b h = tt
+stops-l true b h = absurd h
+
+pub stops-r : (a b : Bool) → Holds (not b) → Holds (not (a && b))
+stops-r false b h = tt
+stops-r true b h = h
+
+pub not-below : (a b : ℕ) → b ≤ a → Holds (not (ltb a b))
+not-below a b h = subst (λ (t : Bool). Holds (not t)) (sym (le-ltb a b h)) tt
+
+stops-by : (t : Bool) (i k : ℕ) (l : List Message) → (Holds (not t) → k ≤ 0) → (u : Bool) → (Holds (not u) → length l ≤ i) → Holds (not (t && u)) → lacking k (drop i l) ≡ k
+stops-by true i k l e u f h = ap (lacking k) (drop_of_length-le l (f h)) ∙ none_free k
+stops-by false i k l e u f h = nothing-less k (free_slots (drop i l)) (e tt)
+
+-- a search that stops has found them, or nothing is left of the table: as many are lacking as are still to be found
+pub room-off : (l : List Message) (i k : ℕ) → Holds (not (searching i (length l) k)) → lacking k (drop i l) ≡ k
+room-off l i k h = stops-by (ltb 0 k) i k l (nltb→le 0 k) (ltb i (length l)) (nltb→le i (length l)) h
 
 -- ---- the search for the lowest free slot
 

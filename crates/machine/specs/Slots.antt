@@ -1,5 +1,5 @@
 -- The table searched for free slots, as the code searches it: contracts of private functions.
-use Rattle.std.specs.Prelude.{◌≡◌, true, List, [], ◌∷◌, ℕ, suc, ◌+◌, ◌-◌, ◌<◌, length, drop}
+use Rattle.std.specs.Prelude.{◌≡◌, Bool, true, ◌&&◌, List, [], ◌∷◌, ℕ, suc, ◌+◌, ◌-◌, ◌<◌, ltb, length, drop}
 use Rattle.std.specs.Prelude.{if◌then◌else◌}
 use Rattle.sets.specs.Scans.{empty}
 use Rattle.model.specs.Table.{is_free}
@@ -22,6 +22,10 @@ taken_slot = record {
 -- of k free slots still to be found, those left after a slot
 abbrev pub left_after : Message → ℕ → ℕ
 left_after m k = if is_free m then k - 1 else k
+
+-- whether the search goes on at place i of n, with k slots still to be found
+abbrev pub searching : ℕ → ℕ → ℕ → Bool
+searching i n k = ltb 0 k && ltb i n
 
 -- the lowest free place, or the length of the table
 unfoldable pub lowest : List Message → ℕ

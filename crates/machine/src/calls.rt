@@ -2,10 +2,9 @@
 ghost use Rattle.std.specs.Prelude.{◌≡◌, ◌&&◌};
 ghost use Rattle.choice.specs.Refusals.{no, numbered};
 ghost use Rattle.sizes.specs.Sizes.{sizes_in_range};
-ghost use Rattle.model.specs.Ranges.{records_in_range};
 ghost use Rattle.machine.specs.Slots.{taken_slot};
 ghost use Rattle.machine.specs.Calls.{lent, FreshCall, StepCall, SaidCall, RunCall, WholeRunCall, enough_of};
-ghost use Rattle.machine.specs.Counting.{lengths_are, events_no};
+ghost use Rattle.machine.specs.Counting.{lengths_are, are_sound, events_no};
 
 use crate::PER_ANSWER;
 use crate::lent::{all_in_range, free_first};
@@ -29,7 +28,7 @@ fn sized(z: Sizes, p: usize, a: usize, l: usize, m: usize) -> bool
 
 // The sizes, how many records and slots there are, and what they hold, are in range.
 fn is_sound(z: Sizes, ps: &[Proposer], acs: &[Acceptor], ls: &[Learner], t: &[Message]) -> bool
-    ensures { result ≡ records_in_range z (lent ps.now acs.now ls.now t.now) }
+    ensures { result ≡ are_sound z ps.now acs.now ls.now t.now }
 {
     sized(z, ps.len(), acs.len(), ls.len(), t.len())
         & all_in_range(ps, z)

@@ -1,5 +1,5 @@
-// The records that a caller lends: all tested, and a learner read and stored by one place; and the table of messages searched and posted to.
-ghost use Rattle.std.specs.Prelude.{◌≡◌, ◌++◌, ◌<◌, ◌≤◌, length, get_or, set, drop, replicate};
+// The records that a caller lends: one read or stored by its party's number, a learner by one place, all tested; and the table of messages searched and posted to.
+ghost use Rattle.std.specs.Prelude.{◌≡◌, ◌++◌, ◌<◌, ◌≤◌, ℕ, length, get_or, set, drop, replicate};
 ghost use Rattle.model.specs.Records.{fresh_learner, free_slot, unheard};
 ghost use Rattle.model.specs.Ranges.{all};
 ghost use Rattle.model.specs.Table.{post};
@@ -11,9 +11,80 @@ use crate::sending::item;
 use decisions::arms::Ear;
 use decisions::sending::Send;
 use model::records::Record;
-use model::{Heard, Learner, Message};
-use sets::ProposerId;
+use model::{Acceptor, Heard, Learner, Message, Proposer};
+use sets::{AcceptorId, LearnerId, ProposerId};
 use sizes::Sizes;
+
+// ---- by the number of a party, which is of its role's type
+
+// A party's number, and the kind of record that it finds: a number of another role is a type error.
+pub(crate) trait Number: Copy {
+    type Party: Record;
+
+    ghost index: { Self → ℕ };
+
+    fn of(place: u8) -> Self
+        ensures { index result ≡ place };
+
+    fn place(self) -> usize
+        ensures { result ≡ index self };
+}
+
+impl Number for ProposerId {
+    type Party = Proposer;
+
+    ghost index = { λ i. i.0 };
+
+    fn of(place: u8) -> ProposerId {
+        ProposerId(place)
+    }
+
+    fn place(self) -> usize {
+        self.0 as usize
+    }
+}
+
+impl Number for AcceptorId {
+    type Party = Acceptor;
+
+    ghost index = { λ i. i.0 };
+
+    fn of(place: u8) -> AcceptorId {
+        AcceptorId(place)
+    }
+
+    fn place(self) -> usize {
+        self.0 as usize
+    }
+}
+
+impl Number for LearnerId {
+    type Party = Learner;
+
+    ghost index = { λ i. i.0 };
+
+    fn of(place: u8) -> LearnerId {
+        LearnerId(place)
+    }
+
+    fn place(self) -> usize {
+        self.0 as usize
+    }
+}
+
+pub(crate) fn load<I: Number>(t: &[I::Party], i: I) -> I::Party
+    requires { I.index i < length t.now }
+    ensures { result ≡ get_or t.now (I.index i) I.Party.fresh_record }
+{
+    t[i.place()]
+}
+
+pub(crate) fn store<I: Number>(t: &mut [I::Party], i: I, x: I::Party)
+    requires { I.index i < length t.old }
+    ensures { t.new ≡ set t.old (I.index i) x }
+{
+    t[i.place()] = x;
+}
 
 // What is heard of a proposer: nothing of one past the places. The places are lent: `Learner::heard_of` takes all eight by value.
 fn heard_of(places: &[Heard; 8], p: ProposerId) -> Heard
@@ -34,11 +105,11 @@ fn hold(places: &mut [Heard; 8], p: ProposerId, heard: Heard)
 }
 
 // What a learner has of itself and of one proposer: the other places are not read.
-pub(crate) fn load_ear(t: &[Learner], i: usize, p: ProposerId) -> Ear
-    requires { i < length t.now }
-    ensures { result ≡ ear_of (get_or t.now i fresh_learner) p.0 }
+pub(crate) fn load_ear(t: &[Learner], i: LearnerId, p: ProposerId) -> Ear
+    requires { i.0 < length t.now }
+    ensures { result ≡ ear_of (get_or t.now i.0 fresh_learner) p.0 }
 {
-    let learner = &t[i];
+    let learner = &t[i.place()];
     Ear {
         alive: learner.alive,
         learnt: learner.learnt,
@@ -46,11 +117,11 @@ pub(crate) fn load_ear(t: &[Learner], i: usize, p: ProposerId) -> Ear
     }
 }
 
-pub(crate) fn store_ear(t: &mut [Learner], i: usize, p: ProposerId, x: Ear)
-    requires { i < length t.old }
-    ensures { t.new ≡ set t.old i (put_ear (get_or t.old i fresh_learner) p.0 x) }
+pub(crate) fn store_ear(t: &mut [Learner], i: LearnerId, p: ProposerId, x: Ear)
+    requires { i.0 < length t.old }
+    ensures { t.new ≡ set t.old i.0 (put_ear (get_or t.old i.0 fresh_learner) p.0 x) }
 {
-    let learner = &mut t[i];
+    let learner = &mut t[i.place()];
     learner.alive = x.alive;
     learner.learnt = x.learnt;
     hold(&mut learner.heard, p, x.heard);

@@ -1,5 +1,5 @@
 // One event on the records that a caller lends: fetch, decide, write back.
-ghost use Rattle.std.specs.Prelude.{◌≡◌, ◌<◌, [], length, set};
+ghost use Rattle.std.specs.Prelude.{◌≡◌, ◌<◌, ◌≤◌, [], length, set};
 ghost use Rattle.choice.specs.Refusals.{numbered};
 ghost use Rattle.model.specs.Table.{post};
 ghost use Rattle.decisions.specs.Sending.{items_of};
@@ -8,7 +8,7 @@ ghost use Rattle.machine.specs.Slots.{Ready};
 ghost use Rattle.machine.specs.Stepping.{index_in, party_of, Fits, Gives, step_of};
 ghost use Rattle.machine.specs.Roles.{step_at, GivesSlots, GivesProposers, GivesAcceptors, GivesLearners, OfTable, OfProposer, OfAcceptor, OfLearner, OfTold};
 
-use crate::lent::{load_ear, room, send_all, store_ear};
+use crate::lent::{Number, load, load_ear, room, send_all, store, store_ear};
 use choice::refusals::Refusal;
 use decisions::arms::{
     Arm, arm_of, decide_acceptor, decide_proposer, decide_table, finish, listen, reply, tell,
@@ -16,6 +16,7 @@ use decisions::arms::{
 use decisions::decide::slot_after;
 use decisions::sending::Send;
 use model::{Acceptor, Answer, Code, Event, Learner, Message, Proposer};
+use sets::{AcceptorId, LearnerId, ProposerId};
 use sizes::Sizes;
 
 // ---- which records an event finds. A number that is too great finds record 0, which it leaves as it is.
@@ -48,6 +49,14 @@ fn party_of(e: Event, m: Message) -> u64
     }
 }
 
+// The same as a number of its role, of which there are `n`.
+fn number_of<I: Number>(e: Event, m: Message, n: u16) -> I
+    requires { n ≤ 256 }
+    ensures { I.index result ≡ index_in (party_of e m) n }
+{
+    I::of(index_in(party_of(e, m), n) as u8)
+}
+
 // ---- the arms: each takes its own records and the table, and leaves them where it refuses the event. What else they take is what their definitions take, one by one (`step_at`)
 
 // What an event leaves of the table: its slot is written, and then what it sends is posted.
@@ -73,7 +82,7 @@ fn step_learner(
         (step_at z e k m [] [] ls.old t.old)
         (numbered result) ls.new t.new }
 {
-    let i = index_in(party_of(e, m), z.learners);
+    let i: LearnerId = number_of(e, m, z.learners);
     let x = load_ear(ls, i, m.proposer);
     let heeded = listen(z, e, m, x)?;
     store_ear(ls, i, m.proposer, heeded.change.party);
@@ -94,10 +103,10 @@ fn step_told(
         (step_at z e k m ps.old [] [] t.old)
         (numbered result) ps.new t.new }
 {
-    let i = index_in(party_of(e, m), z.proposers);
-    let q = &mut ps[i];
-    let told = tell(z, e, m, *q)?;
-    *q = told.party;
+    let i: ProposerId = number_of(e, m, z.proposers);
+    let q = load(ps, i);
+    let told = tell(z, e, m, q)?;
+    store(ps, i, told.party);
     t[k] = slot_after(told.frees, m);
     Ok(Answer::Done)
 }
@@ -115,11 +124,11 @@ fn step_acceptor(
         (step_at z e k m [] acs.old [] t.old)
         (numbered result) acs.new t.new }
 {
-    let i = index_in(party_of(e, m), z.acceptors);
-    let c = &mut acs[i];
-    let decided = decide_acceptor(z, e, m, *c)?;
+    let i: AcceptorId = number_of(e, m, z.acceptors);
+    let c = load(acs, i);
+    let decided = decide_acceptor(z, e, m, c)?;
     let change = finish(Ok(decided), room(t, decided.need()))?;
-    *c = change.party;
+    store(acs, i, change.party);
     write_back(t, k, m, change.frees, change.send);
     Ok(Answer::Done)
 }
@@ -137,11 +146,11 @@ fn step_proposer(
         (step_at z e k m ps.old [] [] t.old)
         (numbered result) ps.new t.new }
 {
-    let i = index_in(party_of(e, m), z.proposers);
-    let q = &mut ps[i];
-    let decided = decide_proposer(z, e, m, *q)?;
+    let i: ProposerId = number_of(e, m, z.proposers);
+    let q = load(ps, i);
+    let decided = decide_proposer(z, e, m, q)?;
     let change = finish(Ok(decided), room(t, decided.need()))?;
-    *q = change.party;
+    store(ps, i, change.party);
     write_back(t, k, m, change.frees, change.send);
     reply(e, Ok(change.party.decided))
 }

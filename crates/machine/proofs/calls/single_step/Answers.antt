@@ -8,6 +8,7 @@ use Rattle.machine.specs.Calls.{lent}
 use Rattle.machine.proofs.AnswerNumbers.{step-number}
 use Rattle.machine.proofs.StepLaws.{step-agrees, step-refused}
 use Rattle.machine.proofs.RunLaws.{in-range-fits}
+use Rattle.machine.proofs.CallLaws.{step-sound}
 use Rattle.machine.proofs.calls.single_step.Goals as goal
 
 pub returns-in_err-refuse_unless : goal.returns-in_err-refuse_unless
@@ -16,7 +17,7 @@ returns-in_err-refuse_unless c =
     let s = lent a.ps.now a.acs.now a.ls.now a.t.now in
     let e : c.from_residual.result ≡ Err c.in_err-refuse_unless.field-0.0 = search rules in
     let n = refused-unless 1 c.is_sound-sound.result c.in_err-refuse_unless.field-0.0 c.in_err-refuse_unless.ensures in
-    let r = sym (step-refused a.z s a.e (sym c.is_sound-sound.ensures ∙ n.0)) in
+    let r = sym (step-refused a.z s a.e (sym (step-sound a.z a.ps.now a.acs.now a.ls.now a.t.now) ∙ sym c.is_sound-sound.ensures ∙ n.0)) in
     let said = ap numbered e ∙ ap Err n.1 ∙ ap (λ (x : Stepped). x.answer) r in (
       said,
       (
@@ -31,13 +32,13 @@ returns-in_err-refuse_unless c =
 pub step-requires : goal.step-requires
 step-requires c =
     let a = c.args in
-    in-range-fits a.z a.ps.now a.acs.now a.ls.now a.t.now (sym c.is_sound-sound.ensures ∙ test-passed 0 c.is_sound-sound.result ok (sym c.in_ok-refuse_unless.ensures))
+    in-range-fits a.z a.ps.now a.acs.now a.ls.now a.t.now (sym (step-sound a.z a.ps.now a.acs.now a.ls.now a.t.now) ∙ sym c.is_sound-sound.ensures ∙ test-passed 0 c.is_sound-sound.result ok (sym c.in_ok-refuse_unless.ensures))
 
 pub returns : goal.returns
 returns c =
     let a = c.args in
     let s = lent a.ps.now a.acs.now a.ls.now a.t.now in
-    let same = step-agrees a.z s a.e (sym c.is_sound-sound.ensures ∙ test-passed 0 c.is_sound-sound.result ok (sym c.in_ok-refuse_unless.ensures)) in
+    let same = step-agrees a.z s a.e (sym (step-sound a.z a.ps.now a.acs.now a.ls.now a.t.now) ∙ sym c.is_sound-sound.ensures ∙ test-passed 0 c.is_sound-sound.result ok (sym c.in_ok-refuse_unless.ensures)) in
     let g = c.step.ensures in
     let said = g.0 ∙ same.answer in (
       said,

@@ -1,4 +1,4 @@
-use Rattle.std.proofs.Common.{◌≡◌, ◌∙◌, ap, refl, ◌<◌, length, get_or, set, [], Err, arith, rules}
+use Rattle.std.proofs.Common.{◌≡◌, ◌∙◌, ap, refl, ◌<◌, length, get_or, set, ℕ, [], Err, arith, rules}
 use Rattle.choice.specs.Refusals.{numbered}
 use Rattle.sizes.proofs.SizeLaws.{bounds}
 use Rattle.model.specs.Records.{fresh_proposer, fresh_acceptor}
@@ -9,68 +9,67 @@ use Rattle.decisions.specs.declared.arms.Arm.TheVariants as arm
 use Rattle.decisions.proofs.Deciding.{decided-in}
 use Rattle.machine.specs.Stepping.{party_of, Left}
 use Rattle.machine.specs.Roles.{acceptor_at, decision_at}
-use Rattle.machine.proofs.Readiness.{same, index-is, index-there, found}
+use Rattle.machine.proofs.Readiness.{index-there}
 use Rattle.machine.proofs.Roles.{not-of}
 use Rattle.machine.proofs.Arms.{not-decided, not-finished, went, can-send, slots-written, record-written, answered-done}
 use Rattle.machine.proofs.step.step_acceptor.Goals as goal
-use Rattle.machine.proofs.step.step_acceptor.Goals.{After-index_in-i}
+use Rattle.machine.proofs.step.step_acceptor.Goals.{After-number_of-i, After-load-c}
 
 -- the acceptor that the event finds is there
-there : (c : After-index_in-i) → c.index_in-i.result < length c.args.acs.now
+there : (c : After-number_of-i) → c.number_of-i.result.0 < length c.args.acs.now
 there c =
     let a = c.args in
-    index-there a.acs.now (party_of a.e a.m) a.z.acceptors c.requires.1.0 (bounds a.z c.requires.1.1.0).some-acceptors c.party_of.ensures c.index_in-i.ensures
+    index-there a.acs.now (party_of a.e a.m) a.z.acceptors c.requires.1.0 (bounds a.z c.requires.1.1.0).some-acceptors c.number_of-i.ensures
 
-pub bounds-acs-i : goal.bounds-acs-i
-bounds-acs-i c = there c
+pub number_of-i-requires : goal.number_of-i-requires
+number_of-i-requires c = let h = (bounds c.args.z c.requires.1.1.0).few-acceptors in omega arith
 
-pub offset_bounds-acs-i : goal.offset_bounds-acs-i
-offset_bounds-acs-i c = let h = there c in omega arith
+pub load-c-requires : goal.load-c-requires
+load-c-requires c = there (goal.at.load-c-requires c).After-number_of-i
+
+pub store-requires : goal.store-requires
+store-requires c = there (goal.at.store-requires c).After-number_of-i
 
 -- what the arm decides of it is decided of all records
-decided : (c : After-index_in-i) (x : Acceptor) → x ≡ acceptor_at c.args.z c.args.e c.args.k c.args.m [] c.args.acs.now [] c.args.t.now
-    → by_acceptor (decided_in arm.Acceptor c.args.z c.args.e c.args.m fresh_proposer x) ≡ by_acceptor (decision_at c.args.z c.args.e c.args.k c.args.m [] c.args.acs.now [] c.args.t.now)
-decided c x e =
+decided : (c : After-load-c) → by_acceptor (decided_in arm.Acceptor c.args.z c.args.e c.args.m fresh_proposer c.load-c.result) ≡ by_acceptor (decision_at c.args.z c.args.e c.args.k c.args.m [] c.args.acs.now [] c.args.t.now)
+decided c =
     let a = c.args in
-    ap (λ (y : Acceptor). by_acceptor (decided_in arm.Acceptor a.z a.e a.m fresh_proposer y)) e ∙ ap by_acceptor (decided-in arm.Acceptor a.z a.e a.m fresh_proposer _ c.requires.1.1.0 c.requires.0)
-
-as-found : (c : After-index_in-i) (x : Acceptor) → get_or c.args.acs.now c.index_in-i.result x ≡ acceptor_at c.args.z c.args.e c.args.k c.args.m [] c.args.acs.now [] c.args.t.now
-as-found c x =
-    let a = c.args in
-    found a.acs.now (party_of a.e a.m) a.z.acceptors c.requires.1.0 (bounds a.z c.requires.1.1.0).some-acceptors c.party_of.ensures c.index_in-i.ensures x fresh_acceptor
+    let i = (goal.at.After-load-c c).After-number_of-i in
+    ap (λ (y : Acceptor). by_acceptor (decided_in arm.Acceptor a.z a.e a.m fresh_proposer y)) (c.load-c.ensures ∙ ap (λ (n : ℕ). get_or a.acs.now n fresh_acceptor) i.number_of-i.ensures)
+    ∙ ap by_acceptor (decided-in arm.Acceptor a.z a.e a.m fresh_proposer _ c.requires.1.1.0 c.requires.0)
 
 pub returns-in_err-decided : goal.returns-in_err-decided
 returns-in_err-decided c =
     let a = c.args in
-    let i = (goal.at.returns-in_err-decided c).After-index_in-i in
+    let x = (goal.at.returns-in_err-decided c).After-load-c in
     let e : c.from_residual.result ≡ Err c.in_err-decided.field-0.0 = search rules in
-    let left = not-decided a.z a.e a.k a.m [] a.acs.now [] a.t.now c.requires.1.1.1.1 _ (c.in_err-decided.ensures ∙ decided i _ (as-found i _)) in
-    (ap numbered e ∙ ap (λ (x : Left). x.answer) left, (same _ a.acs.now _ ∙ ap (λ (x : Left). x.acceptors) left, ap (λ (x : Left). x.slots) left))
+    let left = not-decided a.z a.e a.k a.m [] a.acs.now [] a.t.now c.requires.1.1.1.1 _ (c.in_err-decided.ensures ∙ decided x) in
+    (ap numbered e ∙ ap (λ (x : Left). x.answer) left, (ap (λ (x : Left). x.acceptors) left, ap (λ (x : Left). x.slots) left))
 
 pub returns-in_err-change : goal.returns-in_err-change
 returns-in_err-change c =
     let a = c.args in
-    let i = (goal.at.returns-in_err-change c).After-index_in-i in
+    let x = (goal.at.returns-in_err-change c).After-load-c in
     let e : c.from_residual-in_err-change.result ≡ Err c.in_err-change.field-0.0 = search rules in
-    let left = not-finished a.z a.e a.k a.m [] a.acs.now [] a.t.now c.requires.1.1.1.1 _ (c.in_ok-decided.ensures ∙ decided i _ (as-found i _)) c.need.ensures c.room.ensures c.in_err-change.ensures in
-    (ap numbered e ∙ ap (λ (x : Left). x.answer) left, (same _ a.acs.now _ ∙ ap (λ (x : Left). x.acceptors) left, ap (λ (x : Left). x.slots) left))
+    let left = not-finished a.z a.e a.k a.m [] a.acs.now [] a.t.now c.requires.1.1.1.1 _ (c.in_ok-decided.ensures ∙ decided x) c.need.ensures c.room.ensures c.in_err-change.ensures in
+    (ap numbered e ∙ ap (λ (x : Left). x.answer) left, (ap (λ (x : Left). x.acceptors) left, ap (λ (x : Left). x.slots) left))
 
 pub write_back-requires-clause-room : goal.write_back-requires-clause-room
 write_back-requires-clause-room c =
     let a = c.args in
-    let i = (goal.at.write_back-requires-clause-room c).After-index_in-i in
-    let w = went a.z a.e a.k a.m [] a.acs.now [] a.t.now _ (c.in_ok-decided.ensures ∙ decided i _ (as-found i _)) c.need.ensures c.room.ensures c.in_ok-change.ensures in
+    let x = (goal.at.write_back-requires-clause-room c).After-load-c in
+    let w = went a.z a.e a.k a.m [] a.acs.now [] a.t.now _ (c.in_ok-decided.ensures ∙ decided x) c.need.ensures c.room.ensures c.in_ok-change.ensures in
     can-send a.z a.e a.k a.m [] a.acs.now [] a.t.now _ w c.requires.1.1.1.0 c.requires.1.1.1.1
 
 pub returns : goal.returns
 returns c =
     let a = c.args in
-    let i = (goal.at.returns c).After-index_in-i in
-    let w = went a.z a.e a.k a.m [] a.acs.now [] a.t.now _ (c.in_ok-decided.ensures ∙ decided i _ (as-found i _)) c.need.ensures c.room.ensures c.in_ok-change.ensures in
-    let n = index-is a.acs.now (party_of a.e a.m) a.z.acceptors c.requires.1.0 (bounds a.z c.requires.1.1.0).some-acceptors c.party_of.ensures c.index_in-i.ensures in (
+    let x = (goal.at.returns c).After-load-c in
+    let i = (goal.at.returns c).After-number_of-i in
+    let w = went a.z a.e a.k a.m [] a.acs.now [] a.t.now _ (c.in_ok-decided.ensures ∙ decided x) c.need.ensures c.room.ensures c.in_ok-change.ensures in (
       answered-done a.z a.e a.k a.m [] a.acs.now [] a.t.now _ w (not-of arm.Acceptor arm.Learner _ c.requires.0 tt) (not-of arm.Acceptor arm.Proposer _ c.requires.0 tt),
       (
-        (λ j. set a.acs.now (n j) (record-written a.z a.e a.k a.m [] a.acs.now [] a.t.now _ w (λ (d : Changes). d.acceptor) refl j)),
+        c.store.ensures ∙ (λ j. set a.acs.now (i.number_of-i.ensures j) (record-written a.z a.e a.k a.m [] a.acs.now [] a.t.now _ w (λ (d : Changes). d.acceptor) refl j)),
         c.write_back.ensures ∙ slots-written a.z a.e a.k a.m [] a.acs.now [] a.t.now _ w,
       ),
     )

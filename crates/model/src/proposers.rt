@@ -57,13 +57,13 @@ impl Record for Proposer {
         let scans = z.scans as u32;
         let acceptors = z.acceptors as u32;
         self.buffered.fits(scans)
-            && self.proposed.fits(scans)
-            && self.gathered.fits(scans)
-            && self.number <= GREATEST_NUMBER
-            && self.acknowledged.fits(acceptors)
-            && self.rejected.fits(acceptors)
-            && self.decided.fits(scans)
-            && (!self.active || 1 <= self.number)
+            & self.proposed.fits(scans)
+            & self.gathered.fits(scans)
+            & (self.number <= GREATEST_NUMBER)
+            & self.acknowledged.fits(acceptors)
+            & self.rejected.fits(acceptors)
+            & self.decided.fits(scans)
+            & (!self.active | (1 <= self.number))
     }
 }
 

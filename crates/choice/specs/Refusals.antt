@@ -19,10 +19,14 @@ number refusal.EndsEarly = 11
 number refusal.NotShortest = 12
 number refusal.BytesFollow = 13
 
+-- an answer with a number in the place of what refuses it
+abbrev pub numbered_by : {T R : Type 0} → (R → ℕ) → Result T R → Result T ℕ
+numbered_by f (Ok x) = Ok x
+numbered_by f (Err r) = Err (f r)
+
 -- an answer with the number of its refusal in the refusal's place
 abbrev pub numbered : {T : Type 0} → Result T Refusal → Result T ℕ
-numbered (Ok x) = Ok x
-numbered (Err r) = Err (number r)
+numbered r = numbered_by number r
 
 -- document 01's number of an answer: 0, or the refusal's
 abbrev pub no : {T : Type 0} → Result T Refusal → ℕ

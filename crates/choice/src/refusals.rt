@@ -1,5 +1,5 @@
 // Refusals: why an event, a form or a question is refused, each with its number, and tests that refuse.
-ghost use Rattle.std.specs.Prelude.{◌≡◌};
+ghost use Rattle.std.specs.Prelude.{◌≡◌, ℕ};
 ghost use Rattle.choice.specs.Tests.{◌unless◌, refusal, ◌⨾◌, ok};
 ghost use Rattle.choice.specs.Refusals.{number, no};
 
@@ -31,6 +31,30 @@ impl From<Refusal> for u8 {
 
     fn from(refusal: Refusal) -> u8 {
         refusal as u8
+    }
+}
+
+// What says why something is refused, in an answer that is handed on: the refusal, or the number that C and a log have of one.
+pub trait Reason: Copy {
+    ghost number_of: { Self → ℕ };
+
+    fn of(refusal: Refusal) -> Self
+        ensures { number_of result ≡ number refusal };
+}
+
+impl Reason for Refusal {
+    ghost number_of = { number };
+
+    fn of(refusal: Refusal) -> Refusal {
+        refusal
+    }
+}
+
+impl Reason for u8 {
+    ghost number_of = { λ n. n };
+
+    fn of(refusal: Refusal) -> u8 {
+        u8::from(refusal)
     }
 }
 

@@ -4,7 +4,7 @@ ghost use Rattle.std.specs.Prelude.{◌≡◌, true, eqb, Ok, Err};
 ghost use Rattle.std.specs.Prelude.{if◌then◌else◌};
 ghost use Rattle.sizes.specs.Sizes.{sizes_in_range};
 ghost use Rattle.choice.specs.Tests.{◌unless◌, ◌⨾◌, ok};
-ghost use Rattle.choice.specs.Refusals.{no, numbered};
+ghost use Rattle.choice.specs.Refusals.{numbered_by, no, numbered};
 ghost use Rattle.model.specs.Records.{kind_of, fresh_proposer, fresh_acceptor};
 ghost use Rattle.model.specs.Events.{code_of};
 ghost use Rattle.model.specs.declared.Code.TheVariants.{Deliver as deliver};
@@ -19,7 +19,7 @@ use crate::decide::{
 };
 use crate::sending::Send;
 use crate::sound::Sound;
-use choice::refusals::{Refusal, refuse_unless};
+use choice::refusals::{Reason, Refusal, refuse_unless};
 use model::{Acceptor, Answer, Code, Event, Heard, Kind, Message, Proposer, Role};
 use sets::scans::Scans;
 use sets::{LearnerId, ProposerId};
@@ -277,27 +277,28 @@ pub fn listen(z: Sizes, e: Event, m: Message, x: Ear) -> Result<Heeded, Refusal>
 // ---- what is left, and what is answered
 
 // The change, or 8 where slots are lacking for it; a refusal stays.
-pub fn finish<P: Copy>(
-    decided: Result<Change<P>, Refusal>,
+pub fn finish<P: Copy, R: Reason>(
+    decided: Result<Change<P>, R>,
     lacking: u8,
-) -> Result<Change<P>, Refusal>
-    ensures { numbered result ≡ finished (numbered decided) lacking }
+) -> Result<Change<P>, R>
+    ensures { numbered_by R.number_of result ≡ finished (numbered_by R.number_of decided) lacking }
 {
-    let change = decided?;
-    refuse_unless(lacking == 0, Refusal::NoRoom)?;
-    Ok(change)
+    match decided {
+        Ok(_) if lacking != 0 => Err(R::of(Refusal::NoRoom)),
+        _ => decided,
+    }
 }
 
 // What an event answers where no learner hears, and where its proposer's decided set is this one; a refusal stays.
-pub fn reply(e: Event, decided: Result<Scans, Refusal>) -> Result<Answer, Refusal>
-    ensures { numbered result ≡ replied e (numbered decided) }
+pub fn reply<R: Reason>(e: Event, decided: Result<Scans, R>) -> Result<Answer, R>
+    ensures { numbered_by R.number_of result ≡ replied e (numbered_by R.number_of decided) }
 {
-    let set = decided?;
-    if e.code == Code::Decide as u64 {
-        return Ok(Answer::Decided {
+    match decided {
+        Ok(set) if e.code == Code::Decide as u64 => Ok(Answer::Decided {
             proposer: ProposerId((e.a % 256) as u8),
             set,
-        });
+        }),
+        Ok(_) => Ok(Answer::Done),
+        Err(refusal) => Err(refusal),
     }
-    Ok(Answer::Done)
 }

@@ -3,11 +3,11 @@
 
 ghost use Rattle.std.specs.Prelude.{◌≡◌, leb, length};
 ghost use Rattle.std.proofs.lemmas.List.Edits.{sets};
-ghost use Rattle.choice.specs.Refusals.{numbered, no};
+ghost use Rattle.choice.specs.Refusals.{numbered_by, numbered, no};
 ghost use Rattle.numbers.specs.Coding.{put_end};
 ghost use Rattle.forms.specs.Forms.{place_of, plain, numbers_at, ended_at, forms, all_within, numbers_written, after_numbers, numbers_written_no};
 
-use choice::refusals::{Refusal, refuse_unless};
+use choice::refusals::{Reason, Refusal, refuse_unless};
 use numbers::Limit;
 
 // Passes over `count` numbers from a place on, and gives the place after them.
@@ -36,14 +36,12 @@ pub fn take_numbers(room: &mut [u64], bytes: &[u8], at: usize, limit: Limit, cou
 }
 
 // The end of a form of so many bytes whose numbers end at a place: 13 where bytes follow; a refusal stays.
-pub fn ended(length: usize, place: Result<usize, Refusal>) -> Result<usize, Refusal>
-    ensures { numbered result ≡ ended_at length (numbered place) }
+pub fn ended<R: Reason>(length: usize, place: Result<usize, R>) -> Result<usize, R>
+    ensures { numbered_by R.number_of result ≡ ended_at length (numbered_by R.number_of place) }
 {
-    let next = place?;
-    if next < length {
-        Err(Refusal::BytesFollow)
-    } else {
-        Ok(next)
+    match place {
+        Ok(next) if next < length => Err(R::of(Refusal::BytesFollow)),
+        _ => place,
     }
 }
 

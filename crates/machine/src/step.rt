@@ -127,7 +127,7 @@ fn step_acceptor(
     let i: AcceptorId = number_of(e, m, z.acceptors);
     let c = load(acs, i);
     let decided = decide_acceptor(z, e, m, c)?;
-    let change = finish(Ok(decided), room(t, decided.need()))?;
+    let change = finish::<_, Refusal>(Ok(decided), room(t, decided.need()))?;
     store(acs, i, change.party);
     write_back(t, k, m, change.frees, change.send);
     Ok(Answer::Done)
@@ -149,7 +149,7 @@ fn step_proposer(
     let i: ProposerId = number_of(e, m, z.proposers);
     let q = load(ps, i);
     let decided = decide_proposer(z, e, m, q)?;
-    let change = finish(Ok(decided), room(t, decided.need()))?;
+    let change = finish::<_, Refusal>(Ok(decided), room(t, decided.need()))?;
     store(ps, i, change.party);
     write_back(t, k, m, change.frees, change.send);
     reply(e, Ok(change.party.decided))
@@ -166,7 +166,7 @@ fn step_table(
     ensures { GivesSlots (step_at z e k m [] [] [] t.old) (numbered result) t.new }
 {
     let decided = decide_table(z, e, m)?;
-    let change = finish(Ok(decided), room(t, decided.need()))?;
+    let change = finish::<_, Refusal>(Ok(decided), room(t, decided.need()))?;
     write_back(t, k, m, change.frees, change.send);
     Ok(Answer::Done)
 }

@@ -187,7 +187,7 @@ pub fn check_table(bytes: &[u8]) -> Result<usize, Refusal>
     refuse_unless(sizes::scans_in_range(size.value), Refusal::OutOfRange)?;
     let scans = size.value as usize;
     let end = check_scans(bytes, size.next, scans)?;
-    forms::ended(bytes.len(), Ok(end))?;
+    forms::ended::<Refusal>(bytes.len(), Ok(end))?;
     Ok(scans)
 }
 

@@ -82,7 +82,7 @@ fn check(bytes: &[u8]) -> Result<Form, Refusal>
     check_header(header)?;
     let count = usize::from(header.events) * 3;
     let next = forms::skip_numbers(bytes, first, Limit::Schedule, count)?;
-    forms::ended(bytes.len(), Ok(next))?;
+    forms::ended::<Refusal>(bytes.len(), Ok(next))?;
     Ok(Form { header, first })
 }
 

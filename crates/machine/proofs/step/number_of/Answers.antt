@@ -3,4 +3,4 @@ use Rattle.machine.proofs.Readiness.{small-in}
 use Rattle.machine.proofs.step.number_of.Goals as goal
 
 pub overflow_cast-index_in : goal.overflow_cast-index_in
-overflow_cast-index_in g c = let h = subst (λ (k : ℕ). k < 256) (sym c.index_in.ensures) (small-in c.party_of.result c.args.n 256 c.requires (omega arith)) in omega arith
+overflow_cast-index_in g c = let h = subst (λ (k : ℕ). k < 256) (sym c.index_in.ensures) (small-in _ c.args.n 256 c.requires (omega arith)) in omega arith

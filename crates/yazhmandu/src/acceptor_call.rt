@@ -6,7 +6,7 @@ ghost use Rattle.yazhmandu.specs.Calls.{proposal_no, answer_record, answer_reply
 use choice::refusals::{Refusal, refuse_unless};
 use layouts::acceptors::{acceptor_at, is_acceptor};
 use layouts::fields::{FLAGGED_SIZE, SET_SIZE, is_flag, put_flagged, set_at};
-use machine::acceptors::{Reply, answer_proposal};
+use machine::acceptors::{Reply, answer_by_value};
 
 // A reply is a flag and a set.
 pub const REPLY_SIZE: usize = FLAGGED_SIZE as usize;
@@ -31,10 +31,11 @@ pub fn ymd_answer_proposal(
         refuse_unless(is_acceptor(kept, scans), Refusal::OutOfRange)?;
         return Err(Refusal::NotThere);
     }
-    let mut acceptor = acceptor_at(kept);
+    let before = acceptor_at(kept);
     let proposed = set_at(set, 0);
-    let said = answer_proposal(scans, &mut acceptor, proposed)?;
-    put_flagged(kept, acceptor.alive, acceptor.accepted);
+    let answered = answer_by_value(scans, before, proposed);
+    let said = answered.reply?;
+    put_flagged(kept, answered.acceptor.alive, answered.acceptor.accepted);
     match said {
         Reply::Accepted(sent) => put_flagged(reply, true, sent),
         Reply::Rejected(sent) => put_flagged(reply, false, sent),

@@ -9,7 +9,7 @@ use Rattle.decisions.specs.Change.{Changes}
 use Rattle.decisions.specs.declared.arms.Arm.TheVariants as arm
 use Rattle.decisions.proofs.Deciding.{decided-in}
 use Rattle.machine.specs.Stepping.{party_of, Left}
-use Rattle.machine.specs.Roles.{proposer_at, decision_at}
+use Rattle.machine.specs.Roles.{decision_at}
 use Rattle.machine.proofs.Readiness.{index-there}
 use Rattle.machine.proofs.Roles.{not-of}
 use Rattle.machine.proofs.Arms.{not-decided, not-finished, went, can-send, slots-written, record-written, answered}

@@ -23,9 +23,6 @@ pub(crate) trait Number: Copy {
 
     ghost index: { Self → ℕ };
 
-    fn of(place: u8) -> Self
-        ensures { index result ≡ place };
-
     fn place(self) -> usize
         ensures { result ≡ index self };
 }
@@ -34,10 +31,6 @@ impl Number for ProposerId {
     type Party = Proposer;
 
     ghost index = { λ i. i.0 };
-
-    fn of(place: u8) -> ProposerId {
-        ProposerId(place)
-    }
 
     fn place(self) -> usize {
         self.0 as usize
@@ -49,10 +42,6 @@ impl Number for AcceptorId {
 
     ghost index = { λ i. i.0 };
 
-    fn of(place: u8) -> AcceptorId {
-        AcceptorId(place)
-    }
-
     fn place(self) -> usize {
         self.0 as usize
     }
@@ -62,10 +51,6 @@ impl Number for LearnerId {
     type Party = Learner;
 
     ghost index = { λ i. i.0 };
-
-    fn of(place: u8) -> LearnerId {
-        LearnerId(place)
-    }
 
     fn place(self) -> usize {
         self.0 as usize

@@ -8,7 +8,7 @@ ghost use Rattle.machine.specs.Slots.{Ready};
 ghost use Rattle.machine.specs.Stepping.{index_in, party_of, Fits, Gives, step_of};
 ghost use Rattle.machine.specs.Roles.{step_at, GivesSlots, GivesProposers, GivesAcceptors, GivesLearners, OfTable, OfProposer, OfAcceptor, OfLearner, OfTold};
 
-use crate::lent::{Number, load, load_ear, room, send_all, store, store_ear};
+use crate::lent::{load, load_ear, room, send_all, store, store_ear};
 use choice::refusals::Refusal;
 use decisions::arms::{
     Arm, arm_of, decide_acceptor, decide_proposer, decide_table, finish, listen, reply, tell,
@@ -49,12 +49,12 @@ fn party_of(e: Event, m: Message) -> u64
     }
 }
 
-// The same as a number of its role, of which there are `n`.
-fn number_of<I: Number>(e: Event, m: Message, n: u16) -> I
+// Its number among the `n` parties of its role.
+fn number_of(e: Event, m: Message, n: u16) -> u8
     requires { n ≤ 256 }
-    ensures { I.index result ≡ index_in (party_of e m) n }
+    ensures { result ≡ index_in (party_of e m) n }
 {
-    I::of(index_in(party_of(e, m), n) as u8)
+    index_in(party_of(e, m), n) as u8
 }
 
 // ---- the arms: each takes its own records and the table, and leaves them where it refuses the event. What else they take is what their definitions take, one by one (`step_at`)
@@ -82,7 +82,7 @@ fn step_learner(
         (step_at z e k m [] [] ls.old t.old)
         (numbered result) ls.new t.new }
 {
-    let i: LearnerId = number_of(e, m, z.learners);
+    let i = LearnerId(number_of(e, m, z.learners));
     let x = load_ear(ls, i, m.proposer);
     let heeded = listen(z, e, m, x)?;
     store_ear(ls, i, m.proposer, heeded.change.party);
@@ -103,7 +103,7 @@ fn step_told(
         (step_at z e k m ps.old [] [] t.old)
         (numbered result) ps.new t.new }
 {
-    let i: ProposerId = number_of(e, m, z.proposers);
+    let i = ProposerId(number_of(e, m, z.proposers));
     let q = load(ps, i);
     let told = tell(z, e, m, q)?;
     store(ps, i, told.party);
@@ -124,7 +124,7 @@ fn step_acceptor(
         (step_at z e k m [] acs.old [] t.old)
         (numbered result) acs.new t.new }
 {
-    let i: AcceptorId = number_of(e, m, z.acceptors);
+    let i = AcceptorId(number_of(e, m, z.acceptors));
     let c = load(acs, i);
     let decided = decide_acceptor(z, e, m, c)?;
     let change = finish::<_, Refusal>(Ok(decided), room(t, decided.need()))?;
@@ -146,7 +146,7 @@ fn step_proposer(
         (step_at z e k m ps.old [] [] t.old)
         (numbered result) ps.new t.new }
 {
-    let i: ProposerId = number_of(e, m, z.proposers);
+    let i = ProposerId(number_of(e, m, z.proposers));
     let q = load(ps, i);
     let decided = decide_proposer(z, e, m, q)?;
     let change = finish::<_, Refusal>(Ok(decided), room(t, decided.need()))?;

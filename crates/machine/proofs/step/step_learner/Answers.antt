@@ -10,30 +10,30 @@ use Rattle.machine.specs.Roles.{ear_of, put_ear}
 use Rattle.machine.proofs.Readiness.{index-there}
 use Rattle.machine.proofs.Ears.{hears-well, ear-refused, ear-says, ear-left, ear-slots}
 use Rattle.machine.proofs.step.step_learner.Goals as goal
-use Rattle.machine.proofs.step.step_learner.Goals.{After-number_of-i, After-load_ear-x}
+use Rattle.machine.proofs.step.step_learner.Goals.{After-number_of, After-load_ear-x}
 
 -- the learner that the event finds is there
-there : (c : After-number_of-i) → c.number_of-i.result.0 < length c.args.ls.now
+there : (c : After-number_of) → c.number_of.result < length c.args.ls.now
 there c =
     let a = c.args in
-    index-there a.ls.now (party_of a.e a.m) a.z.learners c.requires.1.0 (bounds a.z c.requires.1.1.0).some-learners c.number_of-i.ensures
+    index-there a.ls.now (party_of a.e a.m) a.z.learners c.requires.1.0 (bounds a.z c.requires.1.1.0).some-learners c.number_of.ensures
 
 -- what it hears by its one place is what the learner hears
 heard : (c : After-load_ear-x) → let a = c.args in
     by_learner (heard_in a.z a.e a.m c.load_ear-x.result) ≡ by_learner (listen_of a.z a.e a.m (ear_of (get_or a.ls.now (index_in (party_of a.e a.m) a.z.learners) fresh_learner) a.m.proposer.0))
 heard c =
     let a = c.args in
-    let e = (goal.at.After-load_ear-x c).After-number_of-i.number_of-i.ensures in
+    let e = (goal.at.After-load_ear-x c).After-number_of.number_of.ensures in
     ap by_learner (heard-in a.z a.e a.m c.load_ear-x.result c.requires.0 ∙ ap (listen_of a.z a.e a.m) (c.load_ear-x.ensures ∙ (λ j. ear_of (get_or a.ls.now (e j) fresh_learner) a.m.proposer.0)))
 
-pub number_of-i-requires : goal.number_of-i-requires
-number_of-i-requires c = let h = (bounds c.args.z c.requires.1.1.0).few-learners in omega arith
+pub number_of-requires : goal.number_of-requires
+number_of-requires c = let h = (bounds c.args.z c.requires.1.1.0).few-learners in omega arith
 
 pub load_ear-x-requires : goal.load_ear-x-requires
-load_ear-x-requires c = there (goal.at.load_ear-x-requires c).After-number_of-i
+load_ear-x-requires c = there (goal.at.load_ear-x-requires c).After-number_of
 
 pub store_ear-requires : goal.store_ear-requires
-store_ear-requires c = there (goal.at.store_ear-requires c).After-number_of-i
+store_ear-requires c = there (goal.at.store_ear-requires c).After-number_of
 
 pub returns-in_err-heeded : goal.returns-in_err-heeded
 returns-in_err-heeded c =
@@ -50,7 +50,7 @@ returns c =
     let h = c.requires.0 in
     let p = a.m.proposer.0 in
     let l = get_or ls (index_in (party_of a.e a.m) a.z.learners) fresh_learner in
-    let ei = (goal.at.returns c).After-number_of-i.number_of-i.ensures in
+    let ei = (goal.at.returns c).After-number_of.number_of.ensures in
     let g = hears-well (listen_of a.z a.e a.m (ear_of l p)) c.in_ok-heeded.heeded (c.in_ok-heeded.ensures ∙ heard (goal.at.returns c).After-load_ear-x) in (
       g.0 ∙ ear-says a.z a.e a.k a.m ls t h,
       (

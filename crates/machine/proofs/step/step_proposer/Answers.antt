@@ -14,29 +14,29 @@ use Rattle.machine.proofs.Readiness.{index-there}
 use Rattle.machine.proofs.Roles.{not-of}
 use Rattle.machine.proofs.Arms.{not-decided, not-finished, went, can-send, slots-written, record-written, answered}
 use Rattle.machine.proofs.step.step_proposer.Goals as goal
-use Rattle.machine.proofs.step.step_proposer.Goals.{After-number_of-i, After-load-q}
+use Rattle.machine.proofs.step.step_proposer.Goals.{After-number_of, After-load-q}
 
 -- the proposer that the event finds is there
-there : (c : After-number_of-i) → c.number_of-i.result.0 < length c.args.ps.now
+there : (c : After-number_of) → c.number_of.result < length c.args.ps.now
 there c =
     let a = c.args in
-    index-there a.ps.now (party_of a.e a.m) a.z.proposers c.requires.1.0 (bounds a.z c.requires.1.1.0).some-proposers c.number_of-i.ensures
+    index-there a.ps.now (party_of a.e a.m) a.z.proposers c.requires.1.0 (bounds a.z c.requires.1.1.0).some-proposers c.number_of.ensures
 
-pub number_of-i-requires : goal.number_of-i-requires
-number_of-i-requires c = let h = (bounds c.args.z c.requires.1.1.0).few-proposers in omega arith
+pub number_of-requires : goal.number_of-requires
+number_of-requires c = let h = (bounds c.args.z c.requires.1.1.0).few-proposers in omega arith
 
 pub load-q-requires : goal.load-q-requires
-load-q-requires c = there (goal.at.load-q-requires c).After-number_of-i
+load-q-requires c = there (goal.at.load-q-requires c).After-number_of
 
 pub store-requires : goal.store-requires
-store-requires c = there (goal.at.store-requires c).After-number_of-i
+store-requires c = there (goal.at.store-requires c).After-number_of
 
 -- what the arm decides of it is decided of all records
 decided : (c : After-load-q) → by_proposer (decided_in arm.Proposer c.args.z c.args.e c.args.m c.load-q.result fresh_acceptor) ≡ by_proposer (decision_at c.args.z c.args.e c.args.k c.args.m c.args.ps.now [] [] c.args.t.now)
 decided c =
     let a = c.args in
-    let i = (goal.at.After-load-q c).After-number_of-i in
-    ap (λ (y : Proposer). by_proposer (decided_in arm.Proposer a.z a.e a.m y fresh_acceptor)) (c.load-q.ensures ∙ ap (λ (n : ℕ). get_or a.ps.now n fresh_proposer) i.number_of-i.ensures)
+    let i = (goal.at.After-load-q c).After-number_of in
+    ap (λ (y : Proposer). by_proposer (decided_in arm.Proposer a.z a.e a.m y fresh_acceptor)) (c.load-q.ensures ∙ ap (λ (n : ℕ). get_or a.ps.now n fresh_proposer) i.number_of.ensures)
     ∙ ap by_proposer (decided-in arm.Proposer a.z a.e a.m _ fresh_acceptor c.requires.1.1.0 c.requires.0)
 
 pub returns-in_err-decided : goal.returns-in_err-decided
@@ -66,11 +66,11 @@ pub returns : goal.returns
 returns c =
     let a = c.args in
     let x = (goal.at.returns c).After-load-q in
-    let i = (goal.at.returns c).After-number_of-i in
+    let i = (goal.at.returns c).After-number_of in
     let w = went a.z a.e a.k a.m a.ps.now [] [] a.t.now _ (c.in_ok-decided.ensures ∙ decided x) c.need.ensures c.room.ensures c.in_ok-change.ensures in (
       c.reply.ensures ∙ ap (λ (x : Change Proposer). Ok (done_answer a.e x.party.decided)) w.1.0 ∙ answered a.z a.e a.k a.m a.ps.now [] [] a.t.now _ w refl (not-of arm.Proposer arm.Learner _ c.requires.0 tt),
       (
-        c.store.ensures ∙ (λ j. set a.ps.now (i.number_of-i.ensures j) (record-written a.z a.e a.k a.m a.ps.now [] [] a.t.now _ w (λ (d : Changes). d.proposer) refl j)),
+        c.store.ensures ∙ (λ j. set a.ps.now (i.number_of.ensures j) (record-written a.z a.e a.k a.m a.ps.now [] [] a.t.now _ w (λ (d : Changes). d.proposer) refl j)),
         c.write_back.ensures ∙ slots-written a.z a.e a.k a.m a.ps.now [] [] a.t.now _ w,
       ),
     )

@@ -10,22 +10,22 @@ use Rattle.machine.specs.Stepping.{index_in, party_of, Left}
 use Rattle.machine.proofs.Readiness.{index-there}
 use Rattle.machine.proofs.Arms.{told-refused, told-done, told-left, told-slots}
 use Rattle.machine.proofs.step.step_told.Goals as goal
-use Rattle.machine.proofs.step.step_told.Goals.{After-number_of-i, After-load-q}
+use Rattle.machine.proofs.step.step_told.Goals.{After-number_of, After-load-q}
 
 -- the proposer that the event finds is there
-there : (c : After-number_of-i) → c.number_of-i.result.0 < length c.args.ps.now
+there : (c : After-number_of) → c.number_of.result < length c.args.ps.now
 there c =
     let a = c.args in
-    index-there a.ps.now (party_of a.e a.m) a.z.proposers c.requires.1.0 (bounds a.z c.requires.1.1.0).some-proposers c.number_of-i.ensures
+    index-there a.ps.now (party_of a.e a.m) a.z.proposers c.requires.1.0 (bounds a.z c.requires.1.1.0).some-proposers c.number_of.ensures
 
-pub number_of-i-requires : goal.number_of-i-requires
-number_of-i-requires c = let h = (bounds c.args.z c.requires.1.1.0).few-proposers in omega arith
+pub number_of-requires : goal.number_of-requires
+number_of-requires c = let h = (bounds c.args.z c.requires.1.1.0).few-proposers in omega arith
 
 pub load-q-requires : goal.load-q-requires
-load-q-requires c = there (goal.at.load-q-requires c).After-number_of-i
+load-q-requires c = there (goal.at.load-q-requires c).After-number_of
 
 pub store-requires : goal.store-requires
-store-requires c = there (goal.at.store-requires c).After-number_of-i
+store-requires c = there (goal.at.store-requires c).After-number_of
 
 -- what it is told is what is decided of all records, and no slot is lacking for it
 told : (c : After-load-q) → let a = c.args in
@@ -34,8 +34,8 @@ told : (c : After-load-q) → let a = c.args in
 told c =
     let a = c.args in
     let q = get_or a.ps.now (index_in (party_of a.e a.m) a.z.proposers) fresh_proposer in
-    let i = (goal.at.After-load-q c).After-number_of-i in
-    let e = c.load-q.ensures ∙ ap (λ (n : ℕ). get_or a.ps.now n fresh_proposer) i.number_of-i.ensures in
+    let i = (goal.at.After-load-q c).After-number_of in
+    let e = c.load-q.ensures ∙ ap (λ (n : ℕ). get_or a.ps.now n fresh_proposer) i.number_of.ensures in
     ap (λ (y : Proposer). by_proposer (told_in a.z a.e a.m y)) e ∙ ap by_proposer (told_in_lem a.z a.e a.m q c.requires.0)
 
 pub returns-in_err-told : goal.returns-in_err-told
@@ -54,7 +54,7 @@ returns c =
     let p = party_of a.e a.m in
     let q = get_or ps (index_in p a.z.proposers) fresh_proposer in
     let f = finish_of (decide_of a.z a.e a.m q fresh_acceptor fresh_learner) 0 q fresh_acceptor in
-    let ei = (goal.at.returns c).After-number_of-i.number_of-i.ensures in
+    let ei = (goal.at.returns c).After-number_of.number_of.ensures in
     let g = given-ok f.no (of_proposer f.change) c.in_ok-told.told (c.in_ok-told.ensures ∙ told (goal.at.returns c).After-load-q) in (
       told-done a.z a.e a.k a.m ps t h g.0,
       (

@@ -1,13 +1,13 @@
 -- A word put as far as it has room. Assumes nothing.
 use Rattle.std.proofs.Common.{◌≡◌, ℕ, ◌+◌, ◌-◌, ◌≤◌, ◌<◌, List, ◌++◌, arith, min, length, take, drop, sym, ap, ◌∙◌, [], ◌∷◌, suc, refl, append-nil, length-drop, length-take-le, take_all, take-append-drop, ⊎_elim}
 use Rattle.std.proofs.lemmas.Bool.{cases_lt}
-use Rattle.std.proofs.lemmas.List.Edits.{sets, sets-eq}
+use Rattle.std.proofs.lemmas.List.Edits.{sets}
 use borrow.Rule.Slice.PartMut.{put_mid}
 use native.Mathlib.Numerals.{add-one}
 use lib.ListN.{set, get_or, drop_of_length-le}
 use lib.Seq.{drop-cons}
 use Rattle.std.proofs.lemmas.List.{set-append_right}
-use Rattle.forms.proofs.Steps.{sets-out, sets-append}
+use Rattle.forms.proofs.Steps.{sets-out}
 
 -- what is left of a word, put from its place on, makes the whole: with one byte more, and where the room or the word ends
 pub put_next : (room₀ word room : List ℕ) (i : ℕ) → i < length word → sets room i (drop i word) ≡ sets room₀ 0 word → sets (set room i (get_or word i 0)) (i + 1) (drop (i + 1) word) ≡ sets room₀ 0 word
